@@ -1,0 +1,12 @@
+//! Tokens, and the syntax tree of a Java class with every token that it keeps.
+#![tactic(auto)]
+
+mod token;
+mod tree;
+
+pub use token::{Kind, Place, Reserved, Symbol, Token, Tokens};
+pub use tree::{
+    AssignOp, Block, BlockItem, CallForm, Class, Expr, Field, FieldModifier, ForInit, Import, Local,
+    Member, Method, Modifier, Operation, Param, QualifiedName, ResultType, Simple, Stmt, TypeName,
+    Value,
+};

@@ -1,0 +1,49 @@
+use super::*;
+use std::test::*;
+
+/// The sum as text, with its type's first letter.
+fn told(value: &Val) -> (bool, i64) {
+    match value {
+        Val::Int(n) => (false, i64::from(*n)),
+        Val::Long(n) => (true, *n),
+        _ => (true, 0),
+    }
+}
+
+#[test]
+fn sums_wrap_at_their_own_width(rt: HostRuntime) {
+    // A Java 17 virtual machine gave these sums.
+    let max = i32::MAX;
+    let most = i64::MAX;
+    for (a, b, sum) in [
+        (1, 2, 3),
+        (max, 1, i32::MIN),
+        (max, max, -2),
+        (i32::MIN, i32::MIN, 0),
+    ] {
+        assert_eq!(rt; told(&add(&Val::Int(a), &Val::Int(b))), (false, i64::from(sum)));
+    }
+    for (a, b, sum) in [
+        (1, 2, 3),
+        (most, 1, i64::MIN),
+        (most, most, -2),
+        (i64::MIN, -1, most),
+    ] {
+        assert_eq!(rt; told(&add(&Val::Long(a), &Val::Long(b))), (true, sum));
+    }
+    assert_eq!(rt; told(&add(&Val::Int(max), &Val::Long(1))), (true, 2_147_483_648));
+    assert_eq!(rt; told(&add(&Val::Long(most), &Val::Int(1))), (true, i64::MIN));
+}
+
+#[test]
+fn copies(rt: HostRuntime) -> Result<(), Fail> {
+    let longs = Longs::from_slice(rt.alloc(), &[1, -2])?;
+    let copy = copy_of(rt.alloc(), &Val::Vector(longs))?;
+    if let Val::Vector(again) = &copy {
+        assert_eq!(rt; again.as_slice(), [1, -2].as_slice());
+    } else {
+        assert!(rt; false, "a vector is copied as a vector");
+    }
+    assert_eq!(rt; told(&copy_of(rt.alloc(), &Val::Int(7))?), (false, 7));
+    Ok(())
+}
