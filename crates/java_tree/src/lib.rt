@@ -6,7 +6,7 @@ mod tree;
 
 pub use token::{Kind, Place, Reserved, Symbol, Token, Tokens};
 pub use tree::{
-    AssignOp, Block, BlockItem, CallForm, Class, Expr, Field, FieldModifier, ForInit, Import, Local,
-    Member, Method, Modifier, Operation, Param, QualifiedName, ResultType, Simple, Stmt, TypeName,
-    Value,
+    AssignOp, Block, BlockItem, CallForm, Class, Expr, Field, FieldModifier, ForInit, Import,
+    Local, Member, Method, Modifier, Operation, Param, QualifiedName, ResultType, Simple, Stmt,
+    TypeName, Value,
 };

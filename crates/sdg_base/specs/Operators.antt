@@ -2,7 +2,7 @@
 use Rattle.std.specs.Prelude.{◌+ℤ◌}
 use Rattle.std.specs.Int.{int_wrap, w32, w64}
 use Rattle.sdg_base.specs.declared.val.Val.{Val}
-use Rattle.sdg_base.specs.declared.val.Val.TheVariants.{Int, Long, Bool, Vector}
+use Rattle.sdg_base.specs.declared.val.Val.TheVariants.{Int, Long}
 
 -- a value of a numeric type
 abbrev pub IsNumber : Val → Type 0

@@ -21,7 +21,10 @@ fn sums_wrap_at_their_own_width(rt: HostRuntime) {
         (max, max, -2),
         (i32::MIN, i32::MIN, 0),
     ] {
-        assert_eq!(rt; told(&add(&Val::Int(a), &Val::Int(b))), (false, i64::from(sum)));
+        assert_eq!(rt;
+            told(&add(&Val::Int(a), &Val::Int(b))),
+            (false, i64::from(sum))
+        );
     }
     for (a, b, sum) in [
         (1, 2, 3),
@@ -31,8 +34,14 @@ fn sums_wrap_at_their_own_width(rt: HostRuntime) {
     ] {
         assert_eq!(rt; told(&add(&Val::Long(a), &Val::Long(b))), (true, sum));
     }
-    assert_eq!(rt; told(&add(&Val::Int(max), &Val::Long(1))), (true, 2_147_483_648));
-    assert_eq!(rt; told(&add(&Val::Long(most), &Val::Int(1))), (true, i64::MIN));
+    assert_eq!(rt;
+        told(&add(&Val::Int(max), &Val::Long(1))),
+        (true, 2_147_483_648)
+    );
+    assert_eq!(rt;
+        told(&add(&Val::Long(most), &Val::Int(1))),
+        (true, i64::MIN)
+    );
 }
 
 #[test]

@@ -1,0 +1,6 @@
+pub mod Variables
+pub mod Expressions
+pub mod Sites
+pub mod Members
+pub mod Blocks
+pub mod Source

@@ -1,0 +1,84 @@
+-- The tree of a class of the first form.
+use Rattle.std.specs.Prelude.{ℕ, true, false, List, [], ◌∷◌, map, Some, None, codes}
+use Rattle.sdg_base.specs.declared.operator.BinOp.TheVariants as bin
+use Rattle.java_tree.specs.declared.tree.Class.{Class}
+use Rattle.java_tree.specs.declared.tree.Member.{Member}
+use Rattle.java_tree.specs.declared.tree.Member.TheVariants as member
+use Rattle.java_tree.specs.declared.tree.FieldModifier.TheVariants.{Partitioned}
+use Rattle.java_tree.specs.declared.tree.TypeName.TheVariants as type_name
+use Rattle.java_tree.specs.declared.tree.ResultType.{ResultType}
+use Rattle.java_tree.specs.declared.tree.ResultType.TheVariants as result_type
+use Rattle.java_tree.specs.declared.tree.Param.{Param}
+use Rattle.java_tree.specs.declared.tree.Method.{Method}
+use Rattle.java_tree.specs.declared.tree.BlockItem.{BlockItem}
+use Rattle.java_tree.specs.declared.tree.BlockItem.TheVariants as item
+use Rattle.java_tree.specs.declared.tree.Stmt.TheVariants as stmt
+use Rattle.java_tree.specs.declared.tree.Simple.TheVariants as simple
+use Rattle.java_tree.specs.declared.tree.Expr.{Expr}
+use Rattle.java_tree.specs.declared.tree.Expr.TheVariants as e
+use Rattle.java_tree.specs.declared.tree.Operation.{Operation, roll-Operation}
+use Rattle.java_tree.specs.declared.tree.Value.{Value, roll-Value}
+use Rattle.java_tree.specs.declared.tree.CallForm.{CallForm}
+use Rattle.java_tree.specs.declared.tree.CallForm.TheVariants as call
+use Rattle.early_forms.specs.declared.first.Atom.{Atom}
+use Rattle.early_forms.specs.declared.first.Atom.TheVariants.{Literal, Variable}
+use Rattle.early_forms.specs.declared.first.Sum.{Sum}
+use Rattle.early_forms.specs.declared.first.Body.{Body}
+use Rattle.early_forms.specs.declared.first.Body.TheVariants.{Put, Get, GetInto}
+use Rattle.early_forms.specs.declared.first.FirstMethod.{FirstMethod}
+use Rattle.early_forms.specs.declared.first.FirstClass.{FirstClass}
+
+abbrev pub atom_tree : Atom → Expr
+atom_tree (Literal n) = e.Number n true false
+atom_tree (Variable name) = e.Name name
+
+abbrev pub plus : Atom → Operation
+plus atom = roll-Operation (record { op = bin.Add; right = atom_tree atom })
+
+-- a sum of one atom is the atom
+abbrev pub chain : Expr → List Atom → Expr
+chain first [] = first
+chain first (atom ∷ atoms) = e.Binary first (map plus (atom ∷ atoms))
+
+abbrev pub sum_tree : Sum → Expr
+sum_tree s = chain (atom_tree s.first) s.others
+
+abbrev pub plain : Expr → Value
+plain x = roll-Value (record { is_global = false; expr = x })
+
+-- a call of a method of the field
+abbrev pub access : List ℕ → List ℕ → List Expr → CallForm
+access field method args = call.Of field method (map plain args)
+
+abbrev pub got : List ℕ → Sum → Value
+got field key = plain (e.Call (access field (codes "get") (sum_tree key ∷ [])))
+
+abbrev pub return_value : Value → BlockItem
+return_value v = item.Stmt (stmt.Return (Some v))
+
+abbrev pub long_local : List ℕ → Value → BlockItem
+long_local name v = item.Local (record { is_partial = false; type_name = type_name.Long; name = name; value = Some v })
+
+abbrev pub body_tree : List ℕ → Body → List BlockItem
+body_tree field (Put key value) =
+    item.Stmt (stmt.Simple (simple.Call false (access field (codes "put") (sum_tree key ∷ sum_tree value ∷ [])))) ∷ []
+body_tree field (Get key) = return_value (got field key) ∷ []
+body_tree field (GetInto name key result) = long_local name (got field key) ∷ return_value (plain (sum_tree result)) ∷ []
+
+abbrev pub result_of : Body → ResultType
+result_of (Put key value) = result_type.Void
+result_of _ = result_type.Type type_name.Long
+
+abbrev pub long_parameter : List ℕ → Param
+long_parameter name = record { is_collection = false; type_name = type_name.Long; is_array = false; name = name }
+
+abbrev pub method_tree : List ℕ → FirstMethod → Method
+method_tree field m =
+    record { modifiers = []; result = result_of m.body; name = m.name; params = map long_parameter m.parameters; body = body_tree field m.body }
+
+abbrev pub table_member : List ℕ → Member
+table_member field = member.Field (record { modifiers = Partitioned ∷ []; type_name = codes "Table"; name = field; maker = codes "Table" })
+
+abbrev pub class_tree : FirstClass → Class
+class_tree c =
+    record { «package» = None; imports = []; modifiers = []; name = c.name; members = table_member c.field ∷ map (λ m. member.Method (method_tree c.field m)) c.methods }
