@@ -1,0 +1,6 @@
+pub mod Failing
+pub mod Faults
+pub mod Named
+pub mod Reads
+pub mod Wholes
+pub mod Writes

@@ -1,0 +1,12 @@
+-- files by name
+use Rattle.std.specs.Prelude.{ℕ, List, [], ◌∷◌, Option, Some, None, if◌then◌else◌, unwrap_or}
+use Rattle.std.specs.Str.{bytes_eq}
+
+-- the bytes of the first file of a name
+abbrev pub file_of : List (List ℕ × List ℕ) → List ℕ → Option (List ℕ)
+file_of [] name = None
+file_of (file ∷ files) name = if bytes_eq file.0 name then Some file.1 else file_of files name
+
+-- the same, and no bytes where there is no such file
+abbrev pub bytes_of : List (List ℕ × List ℕ) → List ℕ → List ℕ
+bytes_of files name = unwrap_or (file_of files name) []

@@ -1,0 +1,22 @@
+//! What a program asks of the outside: files to read and a place to write to, each with a count of
+//! its faults, the forms of them that stand in memory, and the loops that read and write whole.
+#![tactic(auto)]
+
+mod failing;
+mod files;
+mod memory_files;
+mod memory_sink;
+mod sink;
+mod sure;
+mod whole;
+
+pub use failing::Fails;
+pub use files::{FileList, Files};
+pub use memory_files::{MemoryFiles, ReadCall};
+pub use memory_sink::MemorySink;
+pub use sink::Sink;
+pub use sure::{SureFiles, SureSink};
+pub use whole::{ReadError, read_whole, write_whole};
+
+#[cfg(test)]
+mod tests;

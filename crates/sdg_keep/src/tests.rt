@@ -1,0 +1,177 @@
+use super::*;
+use sdg_base::{Bytes, KeepError, Name};
+use std::alloc::{AllocError, Global};
+use std::process::Abort;
+use std::test::*;
+
+/// A file `a` with these bytes, then one of the same name with another, then `b` with one.
+fn files_with(alloc: Global, bytes: &[u8]) -> Result<FileList, AllocError> {
+    let mut files = FileList::new(alloc);
+    for (name, bytes) in [(b"a", bytes), (b"a", &[9]), (b"b", &[8])] {
+        files.push((
+            Name::from_slice(alloc, name)?,
+            Bytes::from_slice(alloc, bytes)?,
+        ))?;
+    }
+    Ok(files)
+}
+
+/// One call fails, and a further mark of its number does not count.
+fn fails_at(alloc: Global, number: u64, effect: bool) -> Result<Fails, AllocError> {
+    let mut fails = Fails::new(alloc);
+    fails.push((number, effect))?;
+    fails.push((number, !effect))?;
+    Ok(fails)
+}
+
+/// `count` bytes, no two neighbours alike.
+fn bytes_of(alloc: Global, count: usize) -> Result<Vec<u8>, AllocError> {
+    let mut bytes = Vec::new(alloc);
+    for i in 0..count {
+        bytes.push((i % 251) as u8)?;
+    }
+    Ok(bytes)
+}
+
+/// The answer of a whole read: how many bytes, and whether they are these.
+fn told(answer: &Result<Bytes, ReadError>, bytes: &[u8]) -> Result<(usize, bool), ReadError> {
+    match answer {
+        Ok(read) => Ok((read.len(), read.as_slice() == bytes)),
+        Err(fault) => Err(*fault),
+    }
+}
+
+fn sees_read_of_a(rt: &impl Abort, files: &MemoryFiles, faults: u64) {
+    assert_eq!(rt; files.faults, faults);
+    let name = files.last_failed.as_ref();
+    assert!(rt; name.is_some_and(|name| name.as_slice() == b"a".as_slice()));
+}
+
+#[test]
+fn reads_whole_up_to_the_limit(rt: HostRuntime) -> Result<(), Fail> {
+    let alloc = rt.alloc();
+    let name = String::from_str(alloc, "a")?;
+    for (count, limit, most, want) in [
+        (0, 0, usize::MAX, Ok((0, true))),
+        (1, 0, usize::MAX, Err(ReadError::TooLong)),
+        (9, 10, usize::MAX, Ok((9, true))),
+        (10, 10, usize::MAX, Ok((10, true))),
+        (11, 10, usize::MAX, Err(ReadError::TooLong)),
+        (9, 10, 1, Ok((9, true))),
+        (10, 10, 1, Ok((10, true))),
+        (11, 10, 0, Err(ReadError::TooLong)),
+        (200_000, 16_777_216, usize::MAX, Ok((200_000, true))),
+    ] {
+        let bytes = bytes_of(alloc, count)?;
+        let list = files_with(alloc, bytes.as_slice())?;
+        let mut files = MemoryFiles::new(alloc, list, Fails::new(alloc));
+        files.most = most;
+        let answer = read_whole(alloc, &mut files, &name, limit);
+        assert_eq!(rt; told(&answer, bytes.as_slice()), want, "{count} of {limit}");
+        assert_eq!(rt; files.faults, 0);
+        for call in files.calls.as_slice() {
+            // Never more than one byte above the limit is asked for.
+            assert!(rt; call.from <= limit && call.room as u64 <= limit - call.from + 1);
+        }
+        let mut sure = SureFiles::new(files_with(alloc, bytes.as_slice())?);
+        let answer = read_whole(alloc, &mut sure, &name, limit);
+        assert_eq!(rt; told(&answer, bytes.as_slice()), want, "{count} of {limit}");
+    }
+    Ok(())
+}
+
+#[test]
+fn each_read_fails_in_turn(rt: HostRuntime) -> Result<(), Fail> {
+    let alloc = rt.alloc();
+    let name = String::from_str(alloc, "a")?;
+    let bytes = bytes_of(alloc, 5)?;
+    for number in 1..7 {
+        for effect in [false, true] {
+            let list = files_with(alloc, bytes.as_slice())?;
+            let mut files = MemoryFiles::new(alloc, list, fails_at(alloc, number, effect)?);
+            files.most = 1;
+            let answer = read_whole(alloc, &mut files, &name, 5);
+            assert_eq!(rt; told(&answer, &[]), Err(ReadError::Failed), "call {number}");
+            sees_read_of_a(&rt, &files, 1);
+            assert_eq!(rt; files.calls.len() as u64, number);
+            let again = read_whole(alloc, &mut files, &name, 5);
+            assert_eq!(rt; told(&again, bytes.as_slice()), Ok((5, true)));
+            sees_read_of_a(&rt, &files, 1);
+        }
+    }
+    Ok(())
+}
+
+#[test]
+fn a_failed_read_may_put_bytes(rt: HostRuntime) -> Result<(), Fail> {
+    let alloc = rt.alloc();
+    let name = String::from_str(alloc, "a")?;
+    for (effect, want) in [(false, [0; 3]), (true, [2, 3, 0])] {
+        let fails = fails_at(alloc, 1, effect)?;
+        let mut files = MemoryFiles::new(alloc, files_with(alloc, &[1, 2, 3])?, fails);
+        let mut buffer = [0; 3];
+        assert_eq!(rt; files.read(&name, 1, &mut buffer), Err(KeepError::Failed));
+        assert_eq!(rt; buffer, want);
+        assert_eq!(rt; files.read(&name, 3, &mut buffer), Ok(0));
+    }
+    Ok(())
+}
+
+#[test]
+fn a_missing_file_fails_or_is_empty(rt: HostRuntime) -> Result<(), Fail> {
+    let alloc = rt.alloc();
+    let name = String::from_str(alloc, "c")?;
+    let mut files = MemoryFiles::new(alloc, files_with(alloc, &[1])?, Fails::new(alloc));
+    for faults in 1..3 {
+        let answer = read_whole(alloc, &mut files, &name, 5);
+        assert_eq!(rt; told(&answer, &[]), Err(ReadError::Failed));
+        assert_eq!(rt; files.faults, faults);
+    }
+    let last = files.last_failed.as_ref();
+    assert!(rt; last.is_some_and(|name| name.as_slice() == b"c".as_slice()));
+    let mut sure = SureFiles::new(files_with(alloc, &[1])?);
+    let answer = read_whole(alloc, &mut sure, &name, 5);
+    assert_eq!(rt; told(&answer, &[]), Ok((0, true)));
+    Ok(())
+}
+
+#[test]
+fn writes_whole(rt: HostRuntime) -> Result<(), Fail> {
+    let alloc = rt.alloc();
+    let bytes = bytes_of(alloc, 7)?;
+    for (most, calls) in [(usize::MAX, 1), (3, 3), (1, 7), (0, 7)] {
+        let mut sink = MemorySink::new(alloc, Fails::new(alloc));
+        sink.most = most;
+        assert_eq!(rt; write_whole(&mut sink, bytes.as_slice()), Ok(()));
+        assert_eq!(rt; sink.written.as_slice(), bytes.as_slice());
+        assert_eq!(rt; sink.calls.len(), calls);
+        assert_eq!(rt; write_whole(&mut sink, &[]), Ok(()));
+        assert_eq!(rt; (sink.faults, sink.calls.len()), (0, calls));
+    }
+    let mut sure = SureSink::new();
+    assert_eq!(rt; write_whole(&mut sure, bytes.as_slice()), Ok(()));
+    Ok(())
+}
+
+#[test]
+fn each_write_fails_in_turn(rt: HostRuntime) -> Result<(), Fail> {
+    let alloc = rt.alloc();
+    let bytes = bytes_of(alloc, 5)?;
+    for number in 1..6 {
+        for effect in [false, true] {
+            let mut sink = MemorySink::new(alloc, fails_at(alloc, number, effect)?);
+            sink.most = 1;
+            let answer = write_whole(&mut sink, bytes.as_slice());
+            assert_eq!(rt; answer, Err(KeepError::Failed), "call {number}");
+            assert_eq!(rt; (sink.faults, sink.calls.len() as u64), (1, number));
+            let taken = if effect { 5 } else { number as usize - 1 };
+            assert_eq!(rt;
+                Some(sink.written.as_slice()),
+                bytes.as_slice().get(..taken)
+            );
+            assert_eq!(rt; write_whole(&mut sink, &[7]), Ok(()));
+            assert_eq!(rt; sink.written.len(), taken + 1);
+        }
+    }
+    Ok(())
+}
