@@ -1,0 +1,6 @@
+pub mod Runs
+pub mod Numerals
+pub mod Tables
+pub mod Firsts
+pub mod Fronts
+pub mod Steps
