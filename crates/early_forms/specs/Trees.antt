@@ -59,9 +59,11 @@ return_value v = item.Stmt (stmt.Return (Some v))
 abbrev pub long_local : List ℕ → Value → BlockItem
 long_local name v = item.Local (record { is_partial = false; type_name = type_name.Long; name = name; value = Some v })
 
+abbrev pub put_statement : List ℕ → Sum → Sum → BlockItem
+put_statement field key value = item.Stmt (stmt.Simple (simple.Call false (access field (codes "put") (sum_tree key ∷ sum_tree value ∷ []))))
+
 abbrev pub body_tree : List ℕ → Body → List BlockItem
-body_tree field (Put key value) =
-    item.Stmt (stmt.Simple (simple.Call false (access field (codes "put") (sum_tree key ∷ sum_tree value ∷ [])))) ∷ []
+body_tree field (Put key value) = put_statement field key value ∷ []
 body_tree field (Get key) = return_value (got field key) ∷ []
 body_tree field (GetInto name key result) = long_local name (got field key) ∷ return_value (plain (sum_tree result)) ∷ []
 
