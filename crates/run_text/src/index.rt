@@ -1,0 +1,47 @@
+//! The entry methods by their names.
+
+ghost use Rattle.std.specs.Prelude.{◌≡◌, ◌≢◌, ◌^◌, ◌≤◌, length, All, IfOk, MatchOption};
+ghost use Rattle.run_text.specs.Calls.{IsMethod};
+ghost use Rattle.run_text.specs.Index.{index_at, IsIndex};
+
+use crate::entrance::Entrance;
+use std::alloc::{AllocError, Global};
+use std::collections::BTreeMap;
+
+/// The number of each name's first entry method.
+pub(crate) fn index_of(
+    alloc: Global,
+    entrances: &[Entrance],
+) -> Result<BTreeMap<&[u8], u16>, AllocError>
+    requires { length entrances.now ≤ 2 ^ 16 }
+    ensures { IfOk result (IsIndex entrances.now) }
+{
+    let mut index = BTreeMap::new(alloc);
+    for (number, entrance) in entrances.iter().enumerate() {
+        let name = entrance.name.as_slice();
+        if !index.contains_key(name) {
+            index.insert(name, number as u16)?;
+        }
+    }
+    Ok(index)
+}
+
+/// The first entry method of a name, with its number.
+pub(crate) fn method_of<'a>(
+    entrances: &'a [Entrance],
+    index: &BTreeMap<&[u8], u16>,
+    name: &[u8],
+) -> Option<(u16, &'a Entrance)>
+    requires { IsIndex entrances.now index.now }
+    ensures { MatchOption result (All (λ entrance. entrance.name ≢ name.now) entrances.now) (λ found. IsMethod entrances.now found.0 found.1.now × (found.1.now.name ≡ name.now)) }
+{
+    let number = number_in(index, name)?;
+    Some((number, &entrances[number as usize]))
+}
+
+/// What an index has for a name.
+fn number_in(index: &BTreeMap<&[u8], u16>, name: &[u8]) -> Option<u16>
+    ensures { result ≡ index_at index.now name.now }
+{
+    index.get(name).copied()
+}
