@@ -1,1 +1,5 @@
 pub mod Plain
+pub mod Serial
+pub mod Fits
+pub mod Scopes
+pub mod Results

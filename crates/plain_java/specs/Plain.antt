@@ -22,6 +22,7 @@ use Rattle.access_blocks.specs.Variables.{Variables, Tables, named, renewed}
 use Rattle.access_blocks.specs.Expressions.{as_long, long_of, longs_of}
 use Rattle.access_blocks.specs.Sites.{Access, Site, access_of, site_of, is_marked, after_declaration}
 use Rattle.access_blocks.specs.Members.{fields, methods, empty_tables, variables_of}
+use Rattle.access_blocks.specs.Blocks.{key_value}
 use Rattle.access_blocks.specs.Source.{turns_at_start}
 
 -- where a body stands: the site of the last access, the variables, the turns left and the fields
@@ -94,9 +95,10 @@ pub data Completes (field_names : List (List ℕ)) : List BlockItem → Machine 
       → Gives field_names item m v n
       → as_long v ≡ Some w
       → Completes field_names (item ∷ items) m (outcome.Value w) n.tables
-  -- no turn is left at a mark
-  RunsOut : (item : BlockItem) (items : List BlockItem) (a : Access) (m : Machine)
+  -- no turn is left at a mark, once the key is evaluated
+  RunsOut : (item : BlockItem) (items : List BlockItem) (a : Access) (m : Machine) (key : Val)
       → access_of field_names (out-BlockItem item) ≡ Some a
+      → key_value a.args m.variables ≡ Some key
       → is_marked m.site a ≡ true
       → m.turns ≡ 0
       → Completes field_names (item ∷ items) m outcome.Limit m.tables

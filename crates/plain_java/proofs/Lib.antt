@@ -1,0 +1,12 @@
+mod Accesses
+mod BlockBodies
+mod ClassTrees
+mod Expressions
+mod Histories
+mod Known
+mod Lookups
+mod Statements
+mod SumTrees
+mod Totals
+mod WholeBodies
+mod WholeCalls
