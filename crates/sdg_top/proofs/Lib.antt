@@ -1,0 +1,4 @@
+pub mod Commas
+pub mod Dues
+pub mod Fit
+pub mod Members

@@ -1,0 +1,7 @@
+use Rattle.std.proofs.Common.{◌≡◌, ◌++◌, take}
+use Rattle.std.specs.List.{flat_map}
+use Rattle.sdg_top.specs.Report.{result_line}
+use Rattle.sdg_top.proofs.report.print_results.Given as goal
+
+abbrev pub invariant-loop-result : goal.invariant-loop-result
+invariant-loop-result l = l.out.items ≡ l.initial.out.items ++ flat_map result_line (take l.result-index l.results)

@@ -1,0 +1,7 @@
+use Rattle.std.proofs.Common.{◌≡◌, ◌++◌, take}
+use Rattle.std.specs.List.{flat_map}
+use Rattle.sdg_top.specs.Report.{unfinished_line}
+use Rattle.sdg_top.proofs.report.print_unfinished.Given as goal
+
+abbrev pub invariant-loop-call : goal.invariant-loop-call
+invariant-loop-call l = l.out.items ≡ l.initial.out.items ++ flat_map unfinished_line (take l.call-index l.unfinished)

@@ -1,0 +1,18 @@
+//! What the program answers: from its words, files and output to a status, by one definition.
+#![tactic(auto)]
+
+mod accept;
+mod answer;
+mod lines;
+mod report;
+mod results;
+mod run;
+mod status;
+#[cfg(test)]
+mod tests;
+#[cfg(test)]
+mod top_tests;
+
+pub use report::print_report;
+pub use run::java2sdg;
+pub use status::Status;

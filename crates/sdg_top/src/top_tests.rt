@@ -1,0 +1,278 @@
+use crate::run::java2sdg;
+use crate::status::Status;
+use sdg_base::{Bytes, Name};
+use sdg_keep::{Fails, FileList, MemoryFiles, MemorySink, SureFiles, SureSink};
+use std::alloc::{AllocError, Global};
+use std::process::Abort;
+use std::test::*;
+
+const CLASS: &[u8] =
+    b"class Kv1 {\n  @Partitioned Table t = new Table();\n  void put(long k, long v) { t.put(k, v); }\n  long get(long k) { return t.get(k); }\n  long more(long k) { long x = t.get(k); return x + 1; }\n}\n";
+
+const CALLS: &[u8] = b"put 7 40\nget 7\n";
+
+const REPORT: &[u8] =
+    b"sdg nodes 1 slots 1 stores 1 width 1\nresult 1 void\nresult 2 40\nstep begin 1\nstep block 1\nstep begin 2\nstep block 2\nend 2 results, 4 steps, 4 kept\n";
+
+fn list_of(alloc: Global, class: &[u8], calls: &[u8]) -> Result<FileList, AllocError> {
+    let mut list = FileList::new(alloc);
+    for (name, bytes) in [
+        (b"Kv1.java".as_slice(), class),
+        (b"calls".as_slice(), calls),
+    ] {
+        list.push((
+            Name::from_slice(alloc, name)?,
+            Bytes::from_slice(alloc, bytes)?,
+        ))?;
+    }
+    Ok(list)
+}
+
+/// The words of a line.
+fn words_of(alloc: Global, line: &str) -> Result<Vec<String>, AllocError> {
+    let mut words = Vec::new(alloc);
+    for word in line.split_whitespace() {
+        words.push(String::from_str(alloc, word)?)?;
+    }
+    Ok(words)
+}
+
+/// No call fails.
+fn sound(alloc: Global) -> Fails {
+    Fails::new(alloc)
+}
+
+fn one_fail(alloc: Global, number: u64, effect: bool) -> Result<Fails, AllocError> {
+    let mut fails = Fails::new(alloc);
+    fails.push((number, effect))?;
+    Ok(fails)
+}
+
+/// Runs words over two files in memory, and compares the status and all that is written.
+fn writes(
+    rt: &impl Abort,
+    alloc: Global,
+    words: &str,
+    class: &[u8],
+    calls: &[u8],
+    want: (Status, &[u8]),
+) -> Result<(), AllocError> {
+    let words = words_of(alloc, words)?;
+    let mut files = MemoryFiles::new(alloc, list_of(alloc, class, calls)?, sound(alloc));
+    let mut out = MemorySink::new(alloc, sound(alloc));
+    let status = java2sdg(alloc, &words, &mut files, &mut out);
+    assert_eq!(rt; status, want.0);
+    assert_eq!(rt; out.written.as_slice(), want.1);
+    Ok(())
+}
+
+const RUN: &str = "run Kv1.java calls";
+
+#[test]
+fn rows(rt: HostRuntime) -> Result<(), Fail> {
+    let alloc = rt.alloc();
+    let form = b"class refused: form at 1:1\n".as_slice();
+    for (class, calls, status, text) in [
+        (CLASS, CALLS, Status::Done, REPORT),
+        (
+            CLASS,
+            b"".as_slice(),
+            Status::Done,
+            b"sdg nodes 1 slots 1 stores 1 width 1\nend 0 results, 0 steps, 0 kept\n",
+        ),
+        (
+            CLASS,
+            b"# a comment\n\nput -3 9223372036854775807\nmore -3\r\nmore 0\nget -3",
+            Status::Done,
+            b"sdg nodes 1 slots 1 stores 1 width 1\nresult 1 void\nresult 2 -9223372036854775808\nresult 3 1\nresult 4 9223372036854775807\nstep begin 1\nstep block 1\nstep begin 2\nstep block 2\nstep begin 3\nstep block 3\nstep begin 4\nstep block 4\nend 4 results, 8 steps, 8 kept\n",
+        ),
+        (
+            CLASS,
+            b"put 7\n",
+            Status::Text,
+            b"calls refused: line 1 rule 3\n",
+        ),
+        (
+            CLASS,
+            b"get x\n",
+            Status::Text,
+            b"calls refused: line 1 rule 4\n",
+        ),
+        (
+            CLASS,
+            b"get 1\nset 1 2\n",
+            Status::Text,
+            b"calls refused: line 2 rule 2\n",
+        ),
+        (
+            CLASS,
+            b"get  1\n",
+            Status::Text,
+            b"calls refused: line 1 rule 1\n",
+        ),
+        (b"class A { }", CALLS, Status::Class, form),
+        // The class is judged before the calls.
+        (b"class A { }", b"nonsense", Status::Class, form),
+        (b"", CALLS, Status::Class, form),
+    ] {
+        writes(&rt, alloc, RUN, class, calls, (status, text))?;
+    }
+    Ok(())
+}
+
+#[test]
+fn sums_are_those_of_java(rt: HostRuntime) -> Result<(), Fail> {
+    // What javac and a Java 17 virtual machine give.
+    writes(
+        &rt,
+        rt.alloc(),
+        RUN,
+        b"class W { @Partitioned Table t = new Table(); long ints() { long x = t.get(0); return 2147483647 + 1; } long mixed(long k) { long x = t.get(k); return 2147483647 + 1 + k; } long last(long k) { long x = t.get(2147483647 + 2147483647); return k + 2147483647 + 1; } void keep(long v) { t.put(2147483647 + 2147483647, v); } long kept() { return t.get(0 + k()); } }",
+        b"ints\n",
+        (Status::Class, b"class refused: form at 1:1\n"),
+    )?;
+    writes(
+        &rt,
+        rt.alloc(),
+        RUN,
+        b"class W { @Partitioned Table t = new Table(); long ints() { long x = t.get(0); return 2147483647 + 1; } long mixed(long k) { long x = t.get(k); return 2147483647 + 1 + k; } long last(long k) { return t.get(k + 2147483647 + 1); } void keep(long v) { t.put(2147483647 + 2147483647, v); } }",
+        b"ints\nmixed 0\nmixed 5\nkeep 77\nlast -2147483650\nlast 0\n",
+        (
+            Status::Done,
+            b"sdg nodes 1 slots 1 stores 1 width 1\nresult 1 -2147483648\nresult 2 -2147483648\nresult 3 -2147483643\nresult 4 void\nresult 5 77\nresult 6 0\nstep begin 1\nstep block 1\nstep begin 2\nstep block 2\nstep begin 3\nstep block 3\nstep begin 4\nstep block 4\nstep begin 5\nstep block 5\nstep begin 6\nstep block 6\nend 6 results, 12 steps, 12 kept\n",
+        ),
+    )?;
+    Ok(())
+}
+
+#[test]
+fn faulty_words(rt: HostRuntime) -> Result<(), Fail> {
+    let usage = b"usage: java2sdg COMMAND FILES\n".as_slice();
+    for words in [
+        "",
+        "run",
+        "run Kv1.java",
+        "run Kv1.java calls more",
+        "Run Kv1.java calls",
+        "plain Kv1.java calls",
+        "--help",
+    ] {
+        writes(&rt, rt.alloc(), words, CLASS, CALLS, (Status::Words, usage))?;
+    }
+    Ok(())
+}
+
+#[test]
+fn each_read_fails_in_turn(rt: HostRuntime) -> Result<(), Fail> {
+    let alloc = rt.alloc();
+    let words = words_of(alloc, RUN)?;
+    for (number, text) in [
+        (1, b"cannot read: Kv1.java\n".as_slice()),
+        (2, b"cannot read: Kv1.java\n".as_slice()),
+        (3, b"cannot read: calls\n".as_slice()),
+        (4, b"cannot read: calls\n".as_slice()),
+    ] {
+        for effect in [false, true] {
+            let fails = one_fail(alloc, number, effect)?;
+            let mut files = MemoryFiles::new(alloc, list_of(alloc, CLASS, CALLS)?, fails);
+            let mut out = MemorySink::new(alloc, sound(alloc));
+            let status = java2sdg(alloc, &words, &mut files, &mut out);
+            assert_eq!(rt; status, Status::Read, "read {number}");
+            assert_eq!(rt; out.written.as_slice(), text, "read {number}");
+            assert_eq!(rt; files.calls.len() as u64, number);
+        }
+    }
+    // A file that isn't there.
+    let gone = words_of(alloc, "run Gone.java calls")?;
+    let mut files = MemoryFiles::new(alloc, list_of(alloc, CLASS, CALLS)?, sound(alloc));
+    let mut out = MemorySink::new(alloc, sound(alloc));
+    assert_eq!(rt; java2sdg(alloc, &gone, &mut files, &mut out), Status::Read);
+    assert_eq!(rt;
+        out.written.as_slice(),
+        b"cannot read: Gone.java\n".as_slice()
+    );
+    Ok(())
+}
+
+#[test]
+fn each_write_fails_in_turn(rt: HostRuntime) -> Result<(), Fail> {
+    let alloc = rt.alloc();
+    let words = words_of(alloc, RUN)?;
+    for number in 1..REPORT.len() + 1 {
+        for effect in [false, true] {
+            let mut files = MemoryFiles::new(alloc, list_of(alloc, CLASS, CALLS)?, sound(alloc));
+            let mut out = MemorySink::new(alloc, one_fail(alloc, number as u64, effect)?);
+            out.most = 1;
+            let status = java2sdg(alloc, &words, &mut files, &mut out);
+            assert_eq!(rt; status, Status::Write, "write {number}");
+            let written = out.written.as_slice();
+            assert!(rt; REPORT.starts_with(written), "write {number}");
+            if !effect {
+                assert_eq!(rt; written.len() + 1, number);
+            }
+        }
+    }
+    Ok(())
+}
+
+#[test]
+fn one_byte_at_a_time(rt: HostRuntime) -> Result<(), Fail> {
+    let alloc = rt.alloc();
+    let words = words_of(alloc, RUN)?;
+    let mut files = MemoryFiles::new(alloc, list_of(alloc, CLASS, CALLS)?, sound(alloc));
+    files.most = 1;
+    let mut out = MemorySink::new(alloc, sound(alloc));
+    out.most = 1;
+    assert_eq!(rt; java2sdg(alloc, &words, &mut files, &mut out), Status::Done);
+    assert_eq!(rt; out.written.as_slice(), REPORT);
+    assert_eq!(rt; files.calls.len(), CLASS.len() + CALLS.len() + 2);
+    // The forms that never fail, and a missing file as an empty one.
+    let mut sure = SureFiles::new(list_of(alloc, CLASS, CALLS)?);
+    assert_eq!(rt;
+        java2sdg(alloc, &words, &mut sure, &mut SureSink),
+        Status::Done
+    );
+    let gone = words_of(alloc, "run Kv1.java gone")?;
+    assert_eq!(rt;
+        java2sdg(alloc, &gone, &mut sure, &mut SureSink),
+        Status::Done
+    );
+    Ok(())
+}
+
+/// The bytes, and then so many of one byte that there are `length`.
+fn filled(alloc: Global, front: &[u8], byte: u8, length: usize) -> Result<Vec<u8>, AllocError> {
+    let mut bytes = Vec::from_slice(alloc, front)?;
+    for _ in front.len()..length {
+        bytes.push(byte)?;
+    }
+    Ok(bytes)
+}
+
+#[test]
+fn files_at_their_limits(rt: HostRuntime) -> Result<(), Fail> {
+    let alloc = rt.alloc();
+    for (length, want) in [
+        (1_048_575, (Status::Done, REPORT)),
+        (1_048_576, (Status::Done, REPORT)),
+        (
+            1_048_577,
+            (Status::TooLong, b"too long: Kv1.java\n".as_slice()),
+        ),
+    ] {
+        let class = filled(alloc, CLASS, b' ', length)?;
+        writes(&rt, alloc, RUN, &class, CALLS, want)?;
+    }
+    for (length, want) in [
+        (16_777_215, (Status::Done, REPORT)),
+        (16_777_216, (Status::Done, REPORT)),
+        (
+            16_777_217,
+            (Status::TooLong, b"too long: calls\n".as_slice()),
+        ),
+    ] {
+        let calls = filled(alloc, b"put 7 40\nget 7\n#", b'x', length)?;
+        writes(&rt, alloc, RUN, CLASS, &calls, want)?;
+    }
+    Ok(())
+}
