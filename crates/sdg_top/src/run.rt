@@ -64,6 +64,7 @@ fn answer_run<F: Files>(
         (told F.content F.faults F.last_failed files.old files.new) a.status a.text) }
     ensures complete { AreTold (F.content files.old (string_bytes class.now)) (F.content files.old (string_bytes calls.now))
         → NoFault (F.faults files.old) (F.faults files.new) → IfOk result (λ a. a.status ≡ Status.Done) }
+    ensures same { (other : List ℕ) → F.content files.new other ≡ F.content files.old other }
     ensures falls { F.faults files.old ≤ F.faults files.new }
 {
     let class_text = match read_file(alloc, files, class, CLASS_LIMIT)? {
@@ -108,6 +109,7 @@ fn answer<F: Files>(alloc: Global, words: &[String], files: &mut F) -> Result<An
         (told F.content F.faults F.last_failed files.old files.new) a.status a.text) }
     ensures complete { IsValid (map string_bytes words.now) (F.content files.old)
         → NoFault (F.faults files.old) (F.faults files.new) → IfOk result (λ a. a.status ≡ Status.Done) }
+    ensures same { (other : List ℕ) → F.content files.new other ≡ F.content files.old other }
     ensures falls { F.faults files.old ≤ F.faults files.new }
 {
     match files_of(words) {
@@ -159,6 +161,10 @@ pub fn java2sdg<F: Files, S: Sink>(
     // A fault of the output is told, and nothing else is told so.
     ensures write { result ≡ Status.Write → Rises (S.faults out.old) (S.faults out.new) }
     ensures unwritten { S.faults out.old < S.faults out.new → result ≡ Status.Write }
+    // No content changes, and no count falls.
+    ensures same { (other : List ℕ) → F.content files.new other ≡ F.content files.old other }
+    ensures files_fall_never { F.faults files.old ≤ F.faults files.new }
+    ensures output_falls_never { S.faults out.old ≤ S.faults out.new }
     // What such a fault or want of memory cuts short is a front of what was due.
     ensures front { WritesFront (map string_bytes words.now) (told F.content F.faults F.last_failed files.old files.new)
         (S.written out.old) (S.written out.new) }

@@ -182,6 +182,19 @@ fn each_read_fails_in_turn(rt: HostRuntime) -> Result<(), Fail> {
             assert_eq!(rt; files.calls.len() as u64, number);
         }
     }
+    // The class is read first, so of two files that aren't there it is named.
+    let neither = words_of(alloc, "run Gone.java gone")?;
+    let mut files = MemoryFiles::new(alloc, list_of(alloc, CLASS, CALLS)?, sound(alloc));
+    let mut out = MemorySink::new(alloc, sound(alloc));
+    assert_eq!(rt;
+        java2sdg(alloc, &neither, &mut files, &mut out),
+        Status::Read
+    );
+    assert_eq!(rt;
+        out.written.as_slice(),
+        b"cannot read: Gone.java\n".as_slice()
+    );
+    assert_eq!(rt; files.calls.len(), 1);
     // A file that isn't there.
     let gone = words_of(alloc, "run Gone.java calls")?;
     let mut files = MemoryFiles::new(alloc, list_of(alloc, CLASS, CALLS)?, sound(alloc));
@@ -274,5 +287,17 @@ fn files_at_their_limits(rt: HostRuntime) -> Result<(), Fail> {
         let calls = filled(alloc, b"put 7 40\nget 7\n#", b'x', length)?;
         writes(&rt, alloc, RUN, CLASS, &calls, want)?;
     }
+    Ok(())
+}
+
+#[test]
+fn one_call_too_many(rt: HostRuntime) -> Result<(), Fail> {
+    let alloc = rt.alloc();
+    let mut calls = Vec::new(alloc);
+    for _ in 0..65_537 {
+        calls.extend_from_slice(b"get 1\n")?;
+    }
+    let refused = b"calls refused: line 65537 rule 5\n".as_slice();
+    writes(&rt, alloc, RUN, CLASS, &calls, (Status::Text, refused))?;
     Ok(())
 }
