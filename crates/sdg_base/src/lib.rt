@@ -11,7 +11,7 @@ mod val;
 pub use call::{Call, Calls, Step, Steps};
 pub use item::{Entry, Item, Line, Note, Notes};
 pub use operator::{BinOp, UnOp, add, widen};
-pub use port::{Port, Ports};
+pub use port::{Port, Ports, same_port};
 pub use store::{Blink, ClassName, KeepError, Set, Widths};
 pub use val::{Bytes, Exn, Longs, Name, Num, Outcome, Outcomes, Val, Vals, copy_of};
 

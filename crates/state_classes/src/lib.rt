@@ -1,8 +1,12 @@
 //! The classes that hold state.
 #![tactic(auto)]
 
+mod access;
+mod method;
 mod table;
 
+pub use access::Access;
+pub use method::Method;
 pub use table::Table;
 
 #[cfg(test)]

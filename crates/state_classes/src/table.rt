@@ -3,6 +3,9 @@
 ghost use Rattle.std.specs.Prelude.{◌≡◌, [], OnOk, OnErr};
 ghost use Rattle.state_classes.specs.Contents.{value_at, with_value};
 
+use crate::access::Access;
+use crate::method::Method;
+use sdg_base::{Outcome, Val, Vals};
 use std::alloc::{AllocError, Global};
 use std::collections::BTreeMap;
 use std::marker::Model;
@@ -45,5 +48,22 @@ impl Table {
     {
         self.entries.insert(key, value)?;
         Ok(())
+    }
+}
+
+impl Access for Table {
+    ghost use Rattle.state_classes.specs.States.{OfTable};
+
+    ghost held = { λ t. OfTable t };
+
+    fn call(&mut self, _alloc: Global, method: Method, args: &Vals) -> Result<Outcome, AllocError> {
+        match (method, args.as_slice()) {
+            (Method::Get, [Val::Long(key)]) => Ok(Outcome::Value(Val::Long(self.get(*key)))),
+            (Method::Put, [Val::Long(key), Val::Long(value)]) => {
+                self.put(*key, *value)?;
+                Ok(Outcome::Value(Val::Unit))
+            }
+            _ => unreachable!(),
+        }
     }
 }

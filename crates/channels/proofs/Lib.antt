@@ -1,0 +1,3 @@
+mod ByPort
+mod Marked
+mod Sendings

@@ -1,0 +1,3 @@
+pub mod Sent
+pub mod Outboxes
+pub mod Marks

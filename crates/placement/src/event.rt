@@ -1,0 +1,51 @@
+//! The events of a schedule, and what they answered.
+
+use sdg_base::Port;
+use sqlite_items::Items;
+
+/// How many nodes, slots of each partitioned field, stores, and instances of each partial field at
+/// the start a run has: 1 to 32, 1 to 64, 1 to 8 and 1 to 64.
+#[derive(Clone, Copy, Debug, PartialEq, Eq)]
+pub struct Header {
+    pub nodes: u8,
+    pub slots: u8,
+    pub stores: u8,
+    pub width: u8,
+}
+
+/// An event of a schedule: a cell takes the next item from a port, with a pick of an instance from 0
+/// to 63, or the next result of a cell is committed.
+#[derive(Clone, Copy, Debug, PartialEq, Eq)]
+pub enum Event {
+    Take { to: Port, from: Port, pick: u8 },
+    Sink { from: Port },
+}
+
+/// Events in their order.
+pub type Events = Items<Event>;
+
+/// What a run stands on, and its events.
+#[derive(Debug, Drop)]
+pub struct Schedule {
+    pub header: Header,
+    pub events: Events,
+}
+
+/// What an event answered. A damaged image has the digest that was stated and the one that was found.
+#[derive(Clone, Copy, Debug, PartialEq, Eq)]
+pub enum Word {
+    Done,
+    Replayed,
+    Absent,
+    Down,
+    Held,
+    Empty,
+    Fault,
+    Repeat,
+    Open,
+    Full,
+    Closed,
+    Up,
+    Damaged { stated: [u8; 32], found: [u8; 32] },
+    Malformed,
+}

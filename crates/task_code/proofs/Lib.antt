@@ -1,0 +1,4 @@
+pub mod SafeSteps
+mod Carried
+mod Vars
+mod Running

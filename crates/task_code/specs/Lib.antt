@@ -1,0 +1,4 @@
+pub mod Machine
+pub mod Progress
+pub mod Safe
+pub mod Steps

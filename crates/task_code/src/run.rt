@@ -1,0 +1,204 @@
+//! The engine: an item runs a task.
+
+ghost use Rattle.std.specs.Prelude.{◌≡◌, ◌≤◌, IfOk, IsSome, Some, drop, slice_get};
+ghost use Rattle.task_code.specs.Machine.{runs, run, run_task, start_method};
+ghost use Rattle.task_code.specs.Steps.{CanPerform, Performs, outputs_of, ran};
+
+use crate::context::Context;
+use crate::graph::{Graph, Instr};
+use crate::instructions::{Step, access, binary, cast, cut, ended, load, push_key, store};
+use crate::out::Out;
+use crate::stack::Stack;
+use crate::variables::{carried_vars, first_vars};
+use sdg_base::{Item, Outcome, Port, Val, Vals};
+use state_classes::Access;
+use std::alloc::{AllocError, Global};
+
+/// Each call starts with so many turns.
+const TURNS_AT_START: u32 = 100_000;
+
+/// What instructions work on.
+#[derive(Drop)]
+struct Frame {
+    stack: Stack,
+    vars: Vals,
+    turns: u32,
+}
+
+fn perform<A: Access>(
+    alloc: Global,
+    context: &Context,
+    instr: &Instr,
+    frame: &mut Frame,
+    state: &mut A,
+) -> Result<Step, AllocError>
+    requires { CanPerform context.now instr.now frame.old.stack frame.old.vars frame.old.turns (A.held state.old) }
+    ensures { IfOk result (Performs context.now instr.now frame.old.stack frame.old.vars frame.old.turns (A.held state.old) frame.new.stack frame.new.vars frame.new.turns (A.held state.new)) }
+{
+    match instr {
+        Instr::Int(n) => {
+            frame.stack.push(Val::Int(*n))?;
+            Ok(Step::Next)
+        }
+        Instr::Load(variable) => {
+            load(alloc, *variable, &frame.vars, &mut frame.stack)?;
+            Ok(Step::Next)
+        }
+        Instr::Store(variable) => {
+            store(*variable, &mut frame.stack, &mut frame.vars);
+            Ok(Step::Next)
+        }
+        Instr::Pop => match frame.stack.pop() {
+            Some(_) => Ok(Step::Next),
+            None => unreachable!(),
+        },
+        Instr::Bin(op, num) => {
+            binary(*op, *num, &mut frame.stack)?;
+            Ok(Step::Next)
+        }
+        Instr::Cast(num) => {
+            cast(*num, &mut frame.stack)?;
+            Ok(Step::Next)
+        }
+        Instr::Turn => {
+            if frame.turns == 0 {
+                return Ok(Step::End(ended(context.call(), Outcome::Limit)));
+            }
+            frame.turns -= 1;
+            Ok(Step::Next)
+        }
+        Instr::Key => {
+            push_key(context.key(), &mut frame.stack)?;
+            Ok(Step::Next)
+        }
+        Instr::Access(_, method) => {
+            let step = access(alloc, context.call(), *method, &mut frame.stack, state)?;
+            Ok(step)
+        }
+        Instr::Cut(task) => {
+            let out = cut(
+                alloc,
+                context,
+                *task,
+                frame.turns,
+                &mut frame.stack,
+                &frame.vars,
+            )?;
+            Ok(Step::End(out))
+        }
+        Instr::Return => match frame.stack.pop() {
+            Some(value) => Ok(Step::End(ended(context.call(), Outcome::Value(value)))),
+            None => unreachable!(),
+        },
+        Instr::ReturnVoid => Ok(Step::End(ended(context.call(), Outcome::Value(Val::Unit)))),
+    }
+}
+
+/// Runs the instructions from an index on.
+fn run<A: Access>(
+    alloc: Global,
+    context: &Context,
+    code: &[Instr],
+    start: usize,
+    frame: &mut Frame,
+    state: &mut A,
+) -> Result<Out, AllocError>
+    requires { IsSome (run context.now (drop start code.now) frame.old.stack frame.old.vars frame.old.turns (A.held state.old)) }
+    ensures { IfOk result (λ out. run context.now (drop start code.now) frame.old.stack frame.old.vars frame.old.turns (A.held state.old) ≡ ran out (A.held state.new)) }
+{
+    let mut at = start;
+    while at < code.len() {
+        match perform(alloc, context, &code[at], frame, state)? {
+            Step::Next => at += 1,
+            Step::End(out) => return Ok(out),
+        }
+    }
+    unreachable!()
+}
+
+/// Begins a call of a method.
+fn start_call<A: Access>(
+    alloc: Global,
+    context: &Context,
+    method: u16,
+    args: &Vals,
+    state: &mut A,
+) -> Result<Out, AllocError>
+    requires { IsSome (start_method context.now args.now (A.held state.old) (slice_get context.now.graph.methods method)) }
+    ensures { IfOk result (λ out. start_method context.now args.now (A.held state.old) (slice_get context.now.graph.methods method) ≡ ran out (A.held state.new)) }
+{
+    let method = &context.graph().methods.as_slice()[usize::from(method)];
+    let mut frame = Frame {
+        stack: Stack::new(alloc),
+        vars: first_vars(alloc, method, args.as_slice())?,
+        turns: TURNS_AT_START,
+    };
+    run(alloc, context, method.code.as_slice(), 0, &mut frame, state)
+}
+
+/// Does the work of a task.
+fn do_work<A: Access>(
+    alloc: Global,
+    context: &Context,
+    task: u32,
+    turns: u32,
+    vars: &Vals,
+    state: &mut A,
+) -> Result<Out, AllocError>
+    requires { IsSome (run_task context.now turns vars.now (A.held state.old) (slice_get context.now.graph.tasks task)) }
+    ensures { IfOk result (λ out. run_task context.now turns vars.now (A.held state.old) (slice_get context.now.graph.tasks task) ≡ ran out (A.held state.new)) }
+{
+    let task = &context.graph().tasks.as_slice()[task as usize];
+    let method = &context.graph().methods.as_slice()[usize::from(task.method)];
+    let mut frame = Frame {
+        stack: Stack::new(alloc),
+        vars: carried_vars(alloc, method, task, vars.as_slice())?,
+        turns,
+    };
+    run(
+        alloc,
+        context,
+        method.code.as_slice(),
+        task.at as usize,
+        &mut frame,
+        state,
+    )
+}
+
+/// Runs an item at a port on the state that the port's cell holds, with so many slots of each
+/// partitioned field. It takes time linear in the instructions that run and the method's variables.
+/// Where memory ends, some accesses may have been made.
+pub fn run_task<A: Access>(
+    alloc: Global,
+    graph: &Graph,
+    slots: u8,
+    port: Port,
+    item: &Item,
+    state: &mut A,
+) -> Result<Out, AllocError>
+    requires some { 1 ≤ slots }
+    requires most { slots ≤ 64 }
+    requires right { IsSome (runs graph.now slots port item.now (A.held state.old)) }
+    ensures { IfOk result (λ out. runs graph.now slots port item.now (A.held state.old) ≡ Some (record { outputs = outputs_of out; state = A.held state.new })) }
+{
+    match (port, item) {
+        (Port::Front, Item::Start { call, method, args }) => {
+            let context = Context::new(graph, slots, None, *call, None);
+            start_call(alloc, &context, *method, args, state)
+        }
+        (
+            Port::Slot { field, .. },
+            Item::Work {
+                call,
+                task,
+                key,
+                turns,
+                vars,
+            },
+        ) => {
+            let context = Context::new(graph, slots, Some(field), *call, *key);
+            do_work(alloc, &context, *task, *turns, vars, state)
+        }
+        _ => unreachable!(),
+    }
+}

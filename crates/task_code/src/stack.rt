@@ -1,0 +1,47 @@
+//! The stack on which instructions work.
+
+ghost use Rattle.std.specs.Prelude.{◌≡◌, [], ◌∷◌, MatchOption, OnOk, OnErr};
+
+use sdg_base::Val;
+use std::alloc::{AllocError, Global};
+use std::marker::Model;
+
+/// Values, seen as the list of them from the top down.
+#[derive(Drop)]
+pub struct Stack {
+    values: Vec<Val>,
+}
+
+impl Model for Stack {
+    ghost use Rattle.std.specs.Prelude.{List, reverse};
+    ghost use Rattle.sdg_base.specs.declared.val.Val.{Val};
+
+    ghost Value = { List Val };
+
+    ghost view = { λ s. reverse s.values.items };
+}
+
+impl Stack {
+    /// No values. It takes no memory.
+    pub fn new(alloc: Global) -> Stack
+        ensures { result ≡ [] }
+    {
+        Stack {
+            values: Vec::new(alloc),
+        }
+    }
+
+    pub fn push(&mut self, value: Val) -> Result<(), AllocError>
+        ensures ok { OnOk result (self.new ≡ value ∷ self.old) }
+        ensures err { OnErr result (self.new ≡ self.old) }
+    {
+        self.values.push(value)?;
+        Ok(())
+    }
+
+    pub fn pop(&mut self) -> Option<Val>
+        ensures { MatchOption result ((self.old ≡ []) × (self.new ≡ [])) (λ top. self.old ≡ top ∷ self.new) }
+    {
+        self.values.pop()
+    }
+}
