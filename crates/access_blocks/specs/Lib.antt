@@ -4,3 +4,4 @@ pub mod Sites
 pub mod Members
 pub mod Blocks
 pub mod Source
+pub mod Serial

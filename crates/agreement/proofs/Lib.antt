@@ -1,0 +1,14 @@
+mod Ports
+mod Lists
+mod Invariant
+mod Channels
+mod Moves
+mod Advances
+pub mod Histories
+mod Membership
+mod Offers
+mod Standings
+mod Completion
+pub mod Outcomes
+pub mod Safety
+pub mod Serials

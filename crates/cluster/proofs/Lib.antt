@@ -1,0 +1,14 @@
+mod Along
+mod Begins
+mod Building
+mod Draining
+mod Histories
+mod Lists
+mod Lowest
+mod Offers
+mod Outputs
+mod Places
+mod Reading
+mod SamePorts
+mod Stands
+mod Worlds
