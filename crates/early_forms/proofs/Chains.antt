@@ -3,9 +3,9 @@ use Rattle.std.proofs.Common.{◌≡◌, ◌≢◌, List, [], ◌∷◌, map, ap
 use Rattle.java_tree.specs.declared.tree.Expr.{Expr, out-Expr}
 use Rattle.java_tree.specs.declared.tree.Expr.TheVariants as e
 use Rattle.java_tree.specs.declared.tree.Operation.{Operation}
-use Rattle.early_forms.specs.declared.first.Atom.{Atom}
-use Rattle.early_forms.specs.declared.first.Atom.TheVariants.{Literal, Variable}
-use Rattle.early_forms.specs.declared.first.Sum.{Sum}
+use Rattle.early_forms.specs.declared.straight.Atom.{Atom}
+use Rattle.early_forms.specs.declared.straight.Atom.TheVariants.{Literal, Variable}
+use Rattle.early_forms.specs.declared.straight.Sum.{Sum}
 use Rattle.early_forms.specs.Trees.{atom_tree, plus, chain, sum_tree}
 
 pub record ChainIs (first : Expr) (operations : List Operation) (atom : Atom) (atoms : List Atom) : Type 0 where

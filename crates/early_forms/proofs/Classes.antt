@@ -1,33 +1,57 @@
--- The members of a class of the first form.
-use Rattle.std.proofs.Common.{◌≡◌, ◌≢◌, ℕ, List, [], ◌∷◌, map, sym, ap, ◌∙◌}
+-- The members of a class of the straight form.
+use Rattle.std.proofs.Common.{◌≡◌, ◌≢◌, ℕ, ◌+◌, ◌<◌, ◌≤◌, refl, List, [], ◌∷◌, ◌++◌, map, length, get_or, take, drop, sym, ap, ◌∙◌, arith}
+use Rattle.std.proofs.Math.Seq.{drop-cons}
+use Rattle.std.proofs.lemmas.List.{take_all, drop_all, append-nil, take-append-drop, length-map, length-take}
 use Rattle.java_tree.specs.declared.tree.Member.{Member}
 use Rattle.java_tree.specs.declared.tree.Member.TheVariants as member
-use Rattle.early_forms.specs.declared.first.FirstMethod.{FirstMethod}
-use Rattle.early_forms.specs.declared.first.FirstClass.{FirstClass}
-use Rattle.early_forms.specs.Trees.{method_tree, table_member, class_tree}
-use Rattle.early_forms.specs.Parts.{class_of}
-
-abbrev pub members_with : List ℕ → List FirstMethod → List Member
-members_with field ms = map (λ m. member.Method (method_tree field m)) ms
+use Rattle.early_forms.specs.declared.straight.StraightMethod.{StraightMethod}
+use Rattle.early_forms.specs.declared.straight.StraightClass.{StraightClass}
+use Rattle.early_forms.specs.Trees.{table_member, method_member, class_tree}
+use Rattle.early_forms.specs.Parts.{class_of, TablesAtHead}
 
 abbrev pub field_name : Member → List ℕ
 field_name (member.Field f) = f.name
 field_name (member.Method m) = []
 
-members_none :
-    (field : List ℕ) (table : Member) (others : List Member) →
-    table ≡ table_member field → ((ms : List FirstMethod) → others ≢ members_with field ms) →
-    (field' : List ℕ) (ms : List FirstMethod) → table ∷ others ≢ table_member field' ∷ members_with field' ms
-members_none field table others is refused field' ms same =
-    let tables : table_member field' ≡ table_member field = cc in
-    let fields = ap field_name tables in
-    let rest : others ≡ members_with field' ms = cc in
-    refused ms (rest ∙ ap (λ f. members_with f ms) fields)
+pub no_table_here :
+    (members : List Member) (i : ℕ) (d : Member) (fields : List (List ℕ)) → i < length members → d ≡ get_or members i d →
+    take i members ≡ map table_member fields → ((name : List ℕ) → d ≢ table_member name) → TablesAtHead members fields
+no_table_here members i d fields within read done refused =
+    let count : length fields ≡ i = (let a = ap length done in let b = length-map fields table_member in let e = length-take i members in omega (arith, a, b, e)) in
+    let rest = drop-cons members i d within in
+    record {
+      within = omega (arith, count);
+      parted = sym (take-append-drop i members) ∙ (let P = done in rw (count, done) refl);
+      ended = λ name others same. refused name (let h = rest in let g = read in let c = count in cc);
+    }
 
--- a member that is no method of the form, behind the table
-pub methods_none :
-    (name : List ℕ) (members : List Member) (table : Member) (others : List Member) (field : List ℕ) →
-    members ≡ table ∷ others → table ≡ table_member field → ((ms : List FirstMethod) → others ≢ map (λ m. member.Method (method_tree field m)) ms) →
-    (c : FirstClass) → class_of name members ≢ class_tree c
-methods_none name members table others field split is refused c same =
-    members_none field table others is refused c.field c.methods (sym split ∙ ap (λ tree. tree.members) same)
+pub all_tables : (members : List Member) (i : ℕ) (fields : List (List ℕ)) → length members ≤ i → take i members ≡ map table_member fields → TablesAtHead members fields
+all_tables members i fields past done =
+    let whole = take_all i members past in
+    let all : members ≡ map table_member fields = sym whole ∙ done in
+    let count : length fields ≡ length members = (let a = ap length all in let b = length-map fields table_member in omega (arith, a, b)) in
+    let none : drop (length fields) members ≡ [] = drop_all (length fields) members (omega (arith, count)) in
+    record {
+      within = omega (arith, count);
+      parted = rw none (all ∙ sym (append-nil (map table_member fields)));
+      ended = λ name others same. (let h = none in cc);
+    }
+
+-- members of which those behind the tables are no methods of the form
+others_none :
+    (fields gs : List (List ℕ)) (others : List Member) (ms : List StraightMethod) →
+    ((name : List ℕ) (rest : List Member) → others ≢ table_member name ∷ rest) → ((ns : List StraightMethod) → others ≢ map method_member ns) →
+    map table_member fields ++ others ≢ map table_member gs ++ map method_member ms
+others_none [] [] others ms ended refused same = refused ms same
+others_none [] (g ∷ gs) others ms ended refused same = ended g (map table_member gs ++ map method_member ms) same
+others_none (f ∷ fs) [] others [] ended refused same = cc
+others_none (f ∷ fs) [] others (m ∷ ms) ended refused same = cc
+others_none (f ∷ fs) (g ∷ gs) others ms ended refused same = others_none fs gs others ms ended refused (cc)
+
+pub members_none :
+    (name : List ℕ) (members : List Member) (fields : List (List ℕ)) → TablesAtHead members fields →
+    ((ns : List StraightMethod) → drop (length fields) members ≢ map method_member ns) →
+    (c : StraightClass) → class_of name members ≢ class_tree c
+members_none name members fields head refused c same =
+    others_none fields c.fields (drop (length fields) members) c.methods head.ended refused
+    (sym head.parted ∙ ap (λ tree. tree.members) same)

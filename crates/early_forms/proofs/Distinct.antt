@@ -10,55 +10,24 @@ use Rattle.std.proofs.lemmas.List.{get_or_default, get_or-take, length-take, len
 use Rattle.std.proofs.lemmas.List.Quantifiers.{all_pairs_push}
 use Rattle.std.proofs.lemmas.List.Elements.{Contains-append_left, Contains-push, Contains-push_cases}
 use Rattle.early_forms.specs.Names.{AreDistinct}
+use Rattle.early_forms.specs.Scope.{is_same, is_held, Holds}
 use Rattle.early_forms.proofs.Lists.{get_or-map}
-
-abbrev pub is_same : List ℕ → List ℕ → Bool
-is_same a b = is_eq (slice_cmp nat_cmp a b)
-
--- whether the name is in the set
-abbrev pub holds : List (Bor (List ℕ)) → List ℕ → Bool
-holds keys name = list_any (λ key. is_same name key.now) keys
+use Rattle.early_forms.proofs.NameSets.{push_holds}
 
 pub record AllSeen (keys : List (Bor (List ℕ))) (names : List (List ℕ)) : Type 0 where
   pub distinct : AreDistinct names
-  pub seen : (q : List ℕ) → IsTrue (holds keys q) ↔ Contains names q
-
-equal_from : (o : Ordering) → is_eq o ≡ true → o ≡ Equal
-equal_from Less h = cc
-equal_from Equal h = refl
-equal_from Greater h = cc
-
-same_from : (a b : List ℕ) → is_same a b ≡ true → a ≡ b
-same_from a b h = exact_bytes a b (equal_from (slice_cmp nat_cmp a b) h)
-
-same_itself : (a : List ℕ) → is_same a a ≡ true
-same_itself a = ap is_eq (tied_itself nat_list_cmp_total a)
-
-push_seen :
-    (old new : Bool) (names : List (List ℕ)) (y q : List ℕ) (b : Bool) → is_same y q ≡ b →
-    (IsTrue old ↔ Contains names q) → new ≡ cond b true old → IsTrue new ↔ Contains (names ++ y ∷ []) q
-push_seen old new names y q true at seen is =
-    let same = same_from y q at in
-    let P : List ℕ → Type 0 = λ x. Contains (names ++ y ∷ []) x in
-    (λ held. subst P same (Contains-push names y), λ contains. is)
-push_seen old new names y q false at seen is = (
-  λ held. Contains-append_left names (y ∷ []) q (seen.0 (sym is ∙ held)),
-  λ contains. is ∙ elim (Contains-push_cases names y q contains) [
-    | inl h ↦ seen.1 h
-    | inr e ↦ absurd (let h = same_itself y in let d : is_same y q ≡ is_same y y = ap (λ x. is_same y x) (sym e) in cc)
-  ],
-)
+  pub seen : Holds keys names
 
 pub push_all_seen :
     (old new : List (Bor (List ℕ))) (names : List (List ℕ)) (y : List ℕ) →
-    AllSeen old names → holds old y ≡ false →
-    ((q : List ℕ) → holds new q ≡ cond (is_same y q) true (holds old q)) → AllSeen new (names ++ y ∷ [])
+    AllSeen old names → is_held old y ≡ false →
+    ((q : List ℕ) → is_held new q ≡ cond (is_same y q) true (is_held old q)) → AllSeen new (names ++ y ∷ [])
 push_all_seen old new names y all fresh updated = record {
   distinct = all_pairs_push (λ a b. a ≢ b) names y all.distinct
       (λ k d within same.
-      let there = (all.seen y).1 (k, within, get_or_default names k y d within ∙ same) in
+      let there = (all.seen.each y).1 (k, within, get_or_default names k y d within ∙ same) in
       (let e = sym there ∙ fresh in cc));
-  seen = λ q. push_seen (holds old q) (holds new q) names y q (is_same y q) refl (all.seen q) (updated q);
+  seen = push_holds old new names y all.seen updated;
 }
 
 abbrev pub texts : List (Bor (List ℕ)) → List (List ℕ)
@@ -73,8 +42,8 @@ texts_more names i d within =
 -- one more name, which was not in the set
 pub more_seen :
     (names : List (Bor (List ℕ))) (i : ℕ) (d : Bor (List ℕ)) (old new : List (Bor (List ℕ))) → i < length names →
-    AllSeen old (texts (take i names)) → holds old (get_or names i d).now ≡ false →
-    ((q : List ℕ) → holds new q ≡ cond (is_same (get_or names i d).now q) true (holds old q)) →
+    AllSeen old (texts (take i names)) → is_held old (get_or names i d).now ≡ false →
+    ((q : List ℕ) → is_held new q ≡ cond (is_same (get_or names i d).now q) true (is_held old q)) →
     AllSeen new (texts (take (i + 1) names))
 more_seen names i d old new within all fresh updated =
     rw (texts_more names i d within) (push_all_seen old new (texts (take i names)) (get_or names i d).now all fresh updated)
@@ -82,10 +51,10 @@ more_seen names i d old new within all fresh updated =
 -- a name that was in the set stands at an earlier place too
 pub seen_again :
     (names : List (Bor (List ℕ))) (i : ℕ) (d : Bor (List ℕ)) (old : List (Bor (List ℕ))) → i < length names →
-    AllSeen old (texts (take i names)) → holds old (get_or names i d).now ≡ true → AreDistinct (texts names) → ⊥
+    AllSeen old (texts (take i names)) → is_held old (get_or names i d).now ≡ true → AreDistinct (texts names) → ⊥
 seen_again names i d old within all held distinct =
     let name = (get_or names i d).now in
-    let found = (all.seen name).0 held in
+    let found = (all.seen.each name).0 held in
     let k = found.0 in
     let front = take-map (λ (x : Bor (List ℕ)). x.now) i names in
     let before : k < i = (let h = found.1 in omega (arith, h, length-map (take i names) (λ (x : Bor (List ℕ)). x.now), length-take i names)) in

@@ -1,25 +1,26 @@
--- A tree of the first form has one set of parts.
-use Rattle.std.proofs.Common.{◌≡◌, ◌↔◌, refl, ℕ, Bool, false, IsTrue, List, [], ◌∷◌, map, Option, None, codes, sym, ap, subst, ◌∙◌}
+-- A tree of the straight form has one set of parts.
+use Rattle.std.proofs.Common.{◌≡◌, ◌↔◌, refl, ℕ, Bool, false, IsTrue, List, [], ◌∷◌, ◌++◌, map, codes, sym, ap, subst, ◌∙◌}
 use Rattle.java_tree.specs.declared.tree.Expr.TheVariants as e
 use Rattle.java_tree.specs.declared.tree.Operation.{out-Operation}
-use Rattle.java_tree.specs.declared.tree.Value.{Value}
-use Rattle.java_tree.specs.declared.tree.BlockItem.{BlockItem}
-use Rattle.java_tree.specs.declared.tree.BlockItem.TheVariants as item
+use Rattle.java_tree.specs.declared.tree.CallForm.{CallForm}
 use Rattle.java_tree.specs.declared.tree.Class.{Class}
-use Rattle.java_tree.specs.declared.tree.Member.TheVariants as member
-use Rattle.early_forms.specs.declared.first.Atom.{Atom}
-use Rattle.early_forms.specs.declared.first.Atom.TheVariants.{Literal, Variable}
-use Rattle.early_forms.specs.declared.first.Sum.{Sum}
-use Rattle.early_forms.specs.declared.first.Body.{Body}
-use Rattle.early_forms.specs.declared.first.Body.TheVariants.{Put, Get, GetInto}
-use Rattle.early_forms.specs.declared.first.FirstMethod.{FirstMethod}
-use Rattle.early_forms.specs.declared.first.FirstClass.{FirstClass}
-use Rattle.early_forms.specs.Trees.{atom_tree, plus, chain, sum_tree, plain, access, got, long_local, put_statement, body_tree, long_parameter, method_tree, table_member, class_tree}
+use Rattle.java_tree.specs.declared.tree.Member.{Member}
+use Rattle.early_forms.specs.declared.straight.Atom.{Atom}
+use Rattle.early_forms.specs.declared.straight.Atom.TheVariants.{Literal, Variable}
+use Rattle.early_forms.specs.declared.straight.Sum.{Sum}
+use Rattle.early_forms.specs.declared.straight.Statement.{Statement}
+use Rattle.early_forms.specs.declared.straight.Statement.TheVariants.{Get, Set, Put}
+use Rattle.early_forms.specs.declared.straight.Ending.{Ending}
+use Rattle.early_forms.specs.declared.straight.Ending.TheVariants as ending
+use Rattle.early_forms.specs.declared.straight.StraightMethod.{StraightMethod}
+use Rattle.early_forms.specs.declared.straight.StraightClass.{StraightClass}
+use Rattle.early_forms.specs.Trees.{atom_tree, plus, chain, sum_tree, plain, access, got, put_statement, statement_tree, ending_tree, body_tree, result_of, long_parameter, method_tree, table_member, method_member, class_tree}
 use Rattle.early_forms.specs.Names.{IsProper}
-use Rattle.early_forms.specs.Forms.{IsFirstForm}
+use Rattle.early_forms.specs.Forms.{IsStraightForm}
 use Rattle.early_forms.proofs.Chains.{chain_is, binary_no_atom}
-use Rattle.early_forms.proofs.Layers.{IsInjective, plain_injective, of_injective}
-use Rattle.early_forms.proofs.Classes.{members_with, field_name}
+use Rattle.early_forms.proofs.Layers.{IsInjective, plain_injective, call_injective, local_injective}
+use Rattle.early_forms.proofs.BodyTrees.{return_no_statement}
+use Rattle.early_forms.proofs.Classes.{field_name}
 
 map_injective : {X Y : Type 0} (f : X → Y) → IsInjective f → IsInjective (map f)
 map_injective f one [] [] same = refl
@@ -59,81 +60,134 @@ sum_injective s t same = chain_injective s.first t.first s.others t.others same
 plain_sum_injective : IsInjective (λ s. plain (sum_tree s))
 plain_sum_injective s t same = sum_injective s t (plain_injective (sum_tree s) (sum_tree t) same)
 
-got_injective : (field : List ℕ) → IsInjective (got field)
-got_injective field s t same =
-    let forms = plain_injective (e.Call (access field (codes "get") (sum_tree s ∷ []))) (e.Call (access field (codes "get") (sum_tree t ∷ []))) same in
-    let lists = of_injective field (codes "get") (plain (sum_tree s) ∷ []) (plain (sum_tree t) ∷ []) (cc) in
-    plain_sum_injective s t (cc)
+got_injective : (f g : List ℕ) (s t : Sum) → got f s ≡ got g t → (f ≡ g) × (s ≡ t)
+got_injective f g s t same =
+    let forms = plain_injective (e.Call (access f (codes "get") (sum_tree s ∷ []))) (e.Call (access g (codes "get") (sum_tree t ∷ []))) same in
+    let parts = call_injective (codes "get") f g (plain (sum_tree s) ∷ []) (plain (sum_tree t) ∷ []) (cc) in
+    let lists = parts.1 in
+    (parts.0, plain_sum_injective s t (cc))
 
-put_injective : (field : List ℕ) (k l v w : Sum) → put_statement field k v ≡ put_statement field l w → (k ≡ l) × (v ≡ w)
-put_injective field k l v w same =
-    let lists = of_injective field (codes "put") (plain (sum_tree k) ∷ plain (sum_tree v) ∷ []) (plain (sum_tree l) ∷ plain (sum_tree w) ∷ []) (cc) in
-    (plain_sum_injective k l (cc), plain_sum_injective v w (cc))
+put_injective : (f g : List ℕ) (k l v w : Sum) → put_statement f k v ≡ put_statement g l w → (f ≡ g) × (k ≡ l) × (v ≡ w)
+put_injective f g k l v w same =
+    let parts = call_injective (codes "put") f g (plain (sum_tree k) ∷ plain (sum_tree v) ∷ []) (plain (sum_tree l) ∷ plain (sum_tree w) ∷ []) (cc) in
+    let lists = parts.1 in
+    (parts.0, plain_sum_injective k l (cc), plain_sum_injective v w (cc))
 
-abbrev local_name : BlockItem → List ℕ
-local_name (item.Local l) = l.name
-local_name _ = []
+call_no_sum : (form : CallForm) (first : Atom) (others : List Atom) → e.Call form ≡ chain (atom_tree first) others → ⊥
+call_no_sum form (Literal n) [] same = cc
+call_no_sum form (Variable n) [] same = cc
+call_no_sum form first (x ∷ xs) same = cc
 
-abbrev local_value : BlockItem → Option Value
-local_value (item.Local l) = l.value
-local_value _ = None
+get_no_sum : (f : List ℕ) (k v : Sum) → got f k ≡ plain (sum_tree v) → ⊥
+get_no_sum f k v same =
+    call_no_sum (access f (codes "get") (sum_tree k ∷ [])) v.first v.others
+    (plain_injective (e.Call (access f (codes "get") (sum_tree k ∷ []))) (sum_tree v) same)
 
-local_injective : (n m : List ℕ) (v w : Value) → long_local n v ≡ long_local m w → (n ≡ m) × (v ≡ w)
-local_injective n m v w same = (ap local_name same, (let h = ap local_value same in cc))
-
-body_injective : (field : List ℕ) → IsInjective (body_tree field)
-body_injective field (Put k v) (Put l w) same = let h = put_injective field k l v w (cc) in cc
-body_injective field (Put k v) (Get l) same = cc
-body_injective field (Put k v) (GetInto n l r) same = cc
-body_injective field (Get k) (Put l w) same = cc
-body_injective field (Get k) (Get l) same = let h = got_injective field k l (cc) in cc
-body_injective field (Get k) (GetInto n l r) same = cc
-body_injective field (GetInto n k r) (Put l w) same = cc
-body_injective field (GetInto n k r) (Get l) same = cc
-body_injective field (GetInto n k r) (GetInto m l s) same =
-    let locals = local_injective n m (got field k) (got field l) (cc) in
-    let keys = got_injective field k l locals.1 in
-    let results = plain_sum_injective r s (cc) in
-    let names = locals.0 in
+statement_injective : IsInjective statement_tree
+statement_injective (Get l f k) (Get m g j) same =
+    let parts = local_injective l m (got f k) (got g j) same in
+    let gets = got_injective f g k j parts.1 in
+    let names = parts.0 in
+    let fields = gets.0 in
+    let keys = gets.1 in
     cc
+statement_injective (Get l f k) (Set m v) same = absurd (get_no_sum f k v (local_injective l m (got f k) (plain (sum_tree v)) same).1)
+statement_injective (Get l f k) (Put g j v) same = cc
+statement_injective (Set l v) (Get m g j) same = absurd (get_no_sum g j v (sym (local_injective l m (plain (sum_tree v)) (got g j) same).1))
+statement_injective (Set l v) (Set m w) same =
+    let parts = local_injective l m (plain (sum_tree v)) (plain (sum_tree w)) same in
+    let names = parts.0 in
+    let sums = plain_sum_injective v w parts.1 in
+    cc
+statement_injective (Set l v) (Put g j w) same = cc
+statement_injective (Put f k v) (Get m g j) same = cc
+statement_injective (Put f k v) (Set m w) same = cc
+statement_injective (Put f k v) (Put g j w) same =
+    let parts = put_injective f g k j v w same in
+    let fields = parts.0 in
+    let keys = parts.1 in
+    let values = parts.2 in
+    cc
+
+pub ending_injective : IsInjective ending_tree
+ending_injective ending.Nothing ending.Nothing same = refl
+ending_injective ending.Nothing (ending.Get g j) same = cc
+ending_injective ending.Nothing (ending.Sum w) same = cc
+ending_injective (ending.Get f k) ending.Nothing same = cc
+ending_injective (ending.Get f k) (ending.Get g j) same =
+    let parts = got_injective f g k j (cc) in
+    let fields = parts.0 in
+    let keys = parts.1 in
+    cc
+ending_injective (ending.Get f k) (ending.Sum w) same = absurd (get_no_sum f k w (cc))
+ending_injective (ending.Sum v) ending.Nothing same = cc
+ending_injective (ending.Sum v) (ending.Get g j) same = absurd (get_no_sum g j v (cc))
+ending_injective (ending.Sum v) (ending.Sum w) same = let sums = plain_sum_injective v w (cc) in cc
+
+body_injective : (ss ts : List Statement) (d f : Ending) → body_tree ss d ≡ body_tree ts f → (ss ≡ ts) × (d ≡ f)
+body_injective [] [] d f same = (refl, ending_injective d f same)
+body_injective [] (t ∷ ts) d f same = absurd (return_no_statement d t (body_tree ts f) same)
+body_injective (s ∷ ss) [] d f same = absurd (return_no_statement f s (body_tree ss d) (sym same))
+body_injective (s ∷ ss) (t ∷ ts) d f same =
+    let heads : statement_tree s ≡ statement_tree t = cc in
+    let tails : body_tree ss d ≡ body_tree ts f = cc in
+    let first = statement_injective s t heads in
+    let rest = body_injective ss ts d f tails in
+    let others = rest.0 in
+    (cc, rest.1)
+
+-- bodies of one tree have one type of result
+pub body_result : (ss ts : List Statement) (d f : Ending) → body_tree ss d ≡ body_tree ts f → result_of d ≡ result_of f
+body_result ss ts d f same = ap result_of (body_injective ss ts d f same).1
 
 parameter_injective : IsInjective long_parameter
 parameter_injective a b same = ap (λ p. p.name) same
 
 same_method :
-    (a b : List ℕ) (ps qs : List (List ℕ)) (x y : Body) → a ≡ b → ps ≡ qs → x ≡ y →
-    (let m : FirstMethod = record { name = a; parameters = ps; body = x } in let n : FirstMethod = record { name = b; parameters = qs; body = y } in m ≡ n)
-same_method a b ps qs x y names parameters bodies = cc
+    (a b : List ℕ) (ps qs : List (List ℕ)) (ss ts : List Statement) (d f : Ending) → a ≡ b → ps ≡ qs → ss ≡ ts → d ≡ f →
+    (let m : StraightMethod = record { name = a; parameters = ps; statements = ss; ending = d } in
+    let n : StraightMethod = record { name = b; parameters = qs; statements = ts; ending = f } in m ≡ n)
+same_method a b ps qs ss ts d f names parameters statements endings = cc
 
-method_injective : (field : List ℕ) → IsInjective (method_tree field)
-method_injective field a b same =
-    same_method a.name b.name a.parameters b.parameters a.body b.body (ap (λ m. m.name) same)
-    (map_injective long_parameter parameter_injective a.parameters b.parameters (ap (λ m. m.params) same))
-    (body_injective field a.body b.body (ap (λ m. m.body) same))
+method_injective : IsInjective method_tree
+method_injective a b same =
+    let bodies = body_injective a.statements b.statements a.ending b.ending (ap (λ m. m.body) same) in
+    same_method a.name b.name a.parameters b.parameters a.statements b.statements a.ending b.ending (ap (λ m. m.name) same)
+    (map_injective long_parameter parameter_injective a.parameters b.parameters (ap (λ m. m.params) same)) bodies.0 bodies.1
 
-member_injective : (field : List ℕ) → IsInjective (λ m. member.Method (method_tree field m))
-member_injective field a b same = method_injective field a b (cc)
+member_injective : IsInjective method_member
+member_injective a b same = method_injective a b (cc)
+
+members_injective :
+    (fs gs : List (List ℕ)) (ms ns : List StraightMethod) →
+    map table_member fs ++ map method_member ms ≡ map table_member gs ++ map method_member ns → (fs ≡ gs) × (ms ≡ ns)
+members_injective [] [] ms ns same = (refl, map_injective method_member member_injective ms ns same)
+members_injective [] (g ∷ gs) [] ns same = absurd (cc)
+members_injective [] (g ∷ gs) (m ∷ ms) ns same = absurd (cc)
+members_injective (f ∷ fs) [] ms [] same = absurd (cc)
+members_injective (f ∷ fs) [] ms (n ∷ ns) same = absurd (cc)
+members_injective (f ∷ fs) (g ∷ gs) ms ns same =
+    let heads : table_member f ≡ table_member g = cc in
+    let tails : map table_member fs ++ map method_member ms ≡ map table_member gs ++ map method_member ns = cc in
+    let first = ap field_name heads in
+    let rest = members_injective fs gs ms ns tails in
+    let others = rest.0 in
+    (cc, rest.1)
 
 same_class :
-    (a b f g : List ℕ) (ms ns : List FirstMethod) → a ≡ b → f ≡ g → ms ≡ ns →
-    (let c : FirstClass = record { name = a; field = f; methods = ms } in let d : FirstClass = record { name = b; field = g; methods = ns } in c ≡ d)
-same_class a b f g ms ns names fields methods = cc
+    (a b : List ℕ) (fs gs : List (List ℕ)) (ms ns : List StraightMethod) → a ≡ b → fs ≡ gs → ms ≡ ns →
+    (let c : StraightClass = record { name = a; fields = fs; methods = ms } in let d : StraightClass = record { name = b; fields = gs; methods = ns } in c ≡ d)
+same_class a b fs gs ms ns names fields methods = cc
 
 pub class_injective : IsInjective class_tree
 class_injective c d same =
-    let members : table_member c.field ∷ members_with c.field c.methods ≡ table_member d.field ∷ members_with d.field d.methods =
-    ap (λ tree. tree.members) same in
-    let tables : table_member c.field ≡ table_member d.field = cc in
-    let fields = ap field_name tables in
-    let others : members_with c.field c.methods ≡ members_with d.field d.methods = cc in
-    same_class c.name d.name c.field d.field c.methods d.methods (ap (λ tree. tree.name) same) fields
-    (map_injective (λ m. member.Method (method_tree c.field m)) (member_injective c.field) c.methods d.methods
-    (others ∙ ap (λ f. members_with f d.methods) (sym fields)))
+    let members = members_injective c.fields d.fields c.methods d.methods (ap (λ tree. tree.members) same) in
+    same_class c.name d.name c.fields d.fields c.methods d.methods (ap (λ tree. tree.name) same) members.0 members.1
 
 -- a tree whose parts are not proper is not of the form
 pub improper :
-    (tree : Class) (parts : FirstClass) → tree ≡ class_tree parts →
-    {b : Bool} → b ≡ false → IsTrue b ↔ IsProper parts → IsFirstForm tree → ⊥
+    (tree : Class) (parts : StraightClass) → tree ≡ class_tree parts →
+    {b : Bool} → b ≡ false → IsTrue b ↔ IsProper parts → IsStraightForm tree → ⊥
 improper tree parts is {b} refused says (c, made, proper) =
     let same = class_injective parts c (sym is ∙ made) in
     let holds = says.1 (subst IsProper (sym same) proper) in

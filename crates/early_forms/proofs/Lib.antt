@@ -1,8 +1,11 @@
 pub mod Maps
 pub mod Chains
 pub mod Layers
+pub mod BodyTrees
 pub mod Classes
 pub mod Lists
+pub mod NameSets
 pub mod Distinct
+pub mod Scopes
 pub mod Proper
 pub mod Injective

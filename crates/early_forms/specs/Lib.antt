@@ -2,3 +2,4 @@ pub mod Trees
 pub mod Names
 pub mod Forms
 pub mod Parts
+pub mod Scope

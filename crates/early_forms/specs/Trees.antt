@@ -1,5 +1,5 @@
--- The tree of a class of the first form.
-use Rattle.std.specs.Prelude.{ℕ, true, false, List, [], ◌∷◌, map, Some, None, codes}
+-- The tree of a class of the straight form.
+use Rattle.std.specs.Prelude.{ℕ, true, false, List, [], ◌∷◌, ◌++◌, map, Some, None, codes}
 use Rattle.sdg_base.specs.declared.operator.BinOp.TheVariants as bin
 use Rattle.java_tree.specs.declared.tree.Class.{Class}
 use Rattle.java_tree.specs.declared.tree.Member.{Member}
@@ -20,13 +20,15 @@ use Rattle.java_tree.specs.declared.tree.Operation.{Operation, roll-Operation}
 use Rattle.java_tree.specs.declared.tree.Value.{Value, roll-Value}
 use Rattle.java_tree.specs.declared.tree.CallForm.{CallForm}
 use Rattle.java_tree.specs.declared.tree.CallForm.TheVariants as call
-use Rattle.early_forms.specs.declared.first.Atom.{Atom}
-use Rattle.early_forms.specs.declared.first.Atom.TheVariants.{Literal, Variable}
-use Rattle.early_forms.specs.declared.first.Sum.{Sum}
-use Rattle.early_forms.specs.declared.first.Body.{Body}
-use Rattle.early_forms.specs.declared.first.Body.TheVariants.{Put, Get, GetInto}
-use Rattle.early_forms.specs.declared.first.FirstMethod.{FirstMethod}
-use Rattle.early_forms.specs.declared.first.FirstClass.{FirstClass}
+use Rattle.early_forms.specs.declared.straight.Atom.{Atom}
+use Rattle.early_forms.specs.declared.straight.Atom.TheVariants.{Literal, Variable}
+use Rattle.early_forms.specs.declared.straight.Sum.{Sum}
+use Rattle.early_forms.specs.declared.straight.Statement.{Statement}
+use Rattle.early_forms.specs.declared.straight.Statement.TheVariants.{Get, Set, Put}
+use Rattle.early_forms.specs.declared.straight.Ending.{Ending}
+use Rattle.early_forms.specs.declared.straight.Ending.TheVariants as ending
+use Rattle.early_forms.specs.declared.straight.StraightMethod.{StraightMethod}
+use Rattle.early_forms.specs.declared.straight.StraightClass.{StraightClass}
 
 abbrev pub atom_tree : Atom → Expr
 atom_tree (Literal n) = e.Number n true false
@@ -62,25 +64,36 @@ long_local name v = item.Local (record { is_partial = false; type_name = type_na
 abbrev pub put_statement : List ℕ → Sum → Sum → BlockItem
 put_statement field key value = item.Stmt (stmt.Simple (simple.Call false (access field (codes "put") (sum_tree key ∷ sum_tree value ∷ []))))
 
-abbrev pub body_tree : List ℕ → Body → List BlockItem
-body_tree field (Put key value) = put_statement field key value ∷ []
-body_tree field (Get key) = return_value (got field key) ∷ []
-body_tree field (GetInto name key result) = long_local name (got field key) ∷ return_value (plain (sum_tree result)) ∷ []
+abbrev pub statement_tree : Statement → BlockItem
+statement_tree (Get local field key) = long_local local (got field key)
+statement_tree (Set local value) = long_local local (plain (sum_tree value))
+statement_tree (Put field key value) = put_statement field key value
 
-abbrev pub result_of : Body → ResultType
-result_of (Put key value) = result_type.Void
+abbrev pub ending_tree : Ending → List BlockItem
+ending_tree ending.Nothing = []
+ending_tree (ending.Get field key) = return_value (got field key) ∷ []
+ending_tree (ending.Sum value) = return_value (plain (sum_tree value)) ∷ []
+
+abbrev pub body_tree : List Statement → Ending → List BlockItem
+body_tree statements end = map statement_tree statements ++ ending_tree end
+
+abbrev pub result_of : Ending → ResultType
+result_of ending.Nothing = result_type.Void
 result_of _ = result_type.Type type_name.Long
 
 abbrev pub long_parameter : List ℕ → Param
 long_parameter name = record { is_collection = false; type_name = type_name.Long; is_array = false; name = name }
 
-abbrev pub method_tree : List ℕ → FirstMethod → Method
-method_tree field m =
-    record { modifiers = []; result = result_of m.body; name = m.name; params = map long_parameter m.parameters; body = body_tree field m.body }
+abbrev pub method_tree : StraightMethod → Method
+method_tree m =
+    record { modifiers = []; result = result_of m.ending; name = m.name; params = map long_parameter m.parameters; body = body_tree m.statements m.ending }
 
 abbrev pub table_member : List ℕ → Member
 table_member field = member.Field (record { modifiers = Partitioned ∷ []; type_name = codes "Table"; name = field; maker = codes "Table" })
 
-abbrev pub class_tree : FirstClass → Class
+abbrev pub method_member : StraightMethod → Member
+method_member m = member.Method (method_tree m)
+
+abbrev pub class_tree : StraightClass → Class
 class_tree c =
-    record { «package» = None; imports = []; modifiers = []; name = c.name; members = table_member c.field ∷ map (λ m. member.Method (method_tree c.field m)) c.methods }
+    record { «package» = None; imports = []; modifiers = []; name = c.name; members = map table_member c.fields ++ map method_member c.methods }

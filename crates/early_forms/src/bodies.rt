@@ -1,16 +1,17 @@
-//! Bodies of methods, as what they do with the table.
+//! Bodies of methods, as statements and an ending.
 
-ghost use Rattle.std.specs.Prelude.{◌≡◌, ◌≢◌, ℕ, false, List, [], ◌∷◌, codes, IfOk, MatchOption};
+ghost use Rattle.std.specs.Prelude.{◌≡◌, ◌≢◌, ℕ, false, List, [], ◌∷◌, map, codes, IfOk, MatchOption};
 ghost use Rattle.std.specs.Option.{option_copied};
 ghost use Rattle.java_tree.specs.declared.tree.Expr.{Expr};
 ghost use Rattle.java_tree.specs.declared.tree.Value.{Value};
-ghost use Rattle.early_forms.specs.Trees.{sum_tree, plain, got, return_value, long_local, put_statement, body_tree};
-ghost use Rattle.early_forms.specs.Parts.{PartsOf};
+ghost use Rattle.early_forms.specs.Trees.{sum_tree, plain, got, return_value, long_local, put_statement, statement_tree, ending_tree};
+ghost use Rattle.early_forms.specs.Parts.{PartsOf, StatementsBefore, paired_body};
 
-use crate::first::{Body, Sum};
+use crate::straight::{Ending, Statement, Sum};
 use crate::sums::{copy_name, sum_of};
 use java_tree::{BlockItem, CallForm, Expr, Simple, Stmt, TypeName, Value};
 use sdg_base::Name;
+use sqlite_items::Items;
 use std::alloc::{AllocError, Global};
 
 fn plain_of(value: &Value) -> Option<&Expr>
@@ -32,14 +33,14 @@ fn plain_sum_of(alloc: Global, value: &Value) -> Result<Option<Sum>, AllocError>
     sum_of(alloc, expr)
 }
 
-/// The arguments of a call of the field's method of this name.
-fn arguments_of<'a>(field: &Name, method: &[u8], call: &'a CallForm) -> Option<&'a [Value]>
-    ensures { PartsOf (CallForm.Of field.now method.now) call.now (option_copied result) }
+/// The field and the arguments of a call of a field's method of this name.
+fn access_of<'a>(method: &[u8], call: &'a CallForm) -> Option<(&'a Name, &'a [Value])>
+    ensures { MatchOption result ((field : List ℕ) (arguments : List Value) → call.now ≢ CallForm.Of field method.now arguments) (λ (field, arguments). call.now ≡ CallForm.Of field.now method.now arguments.now) }
 {
     match call {
-        CallForm::Of(object, name, arguments) => {
-            if object.as_slice() == field.as_slice() && name.as_slice() == method {
-                Some(arguments.as_slice())
+        CallForm::Of(field, name, arguments) => {
+            if name.as_slice() == method {
+                Some((field, arguments.as_slice()))
             } else {
                 None
             }
@@ -75,17 +76,20 @@ fn only_plain_sum_of(alloc: Global, values: &[Value]) -> Result<Option<Sum>, All
     }
 }
 
-/// The key of a plain `get`.
-fn key_of(alloc: Global, field: &Name, value: &Value) -> Result<Option<Sum>, AllocError>
-    ensures { IfOk result (PartsOf (got field.now) value.now) }
+/// The field and the key of a plain `get`.
+fn got_of(alloc: Global, value: &Value) -> Result<Option<(Name, Sum)>, AllocError>
+    ensures { IfOk result (PartsOf (λ (field, key). got field key) value.now) }
 {
     let Some(call) = plain_call_of(value) else {
         return Ok(None);
     };
-    let Some(arguments) = arguments_of(field, b"get", call) else {
+    let Some((field, arguments)) = access_of(b"get", call) else {
         return Ok(None);
     };
-    only_plain_sum_of(alloc, arguments)
+    let Some(key) = only_plain_sum_of(alloc, arguments)? else {
+        return Ok(None);
+    };
+    Ok(Some((copy_name(alloc, field)?, key)))
 }
 
 fn two_plain_sums_of(alloc: Global, values: &[Value]) -> Result<Option<(Sum, Sum)>, AllocError>
@@ -112,17 +116,19 @@ fn statement_call_of(item: &BlockItem) -> Option<&CallForm>
     }
 }
 
-/// The key and the value of a `put`.
-fn put_of(alloc: Global, field: &Name, item: &BlockItem) -> Result<Option<(Sum, Sum)>, AllocError>
-    ensures { IfOk result (PartsOf (λ (key, value). put_statement field.now key value) item.now) }
+fn put_of(alloc: Global, item: &BlockItem) -> Result<Option<(Name, Sum, Sum)>, AllocError>
+    ensures { IfOk result (PartsOf (λ (field, key, value). put_statement field key value) item.now) }
 {
     let Some(call) = statement_call_of(item) else {
         return Ok(None);
     };
-    let Some(arguments) = arguments_of(field, b"put", call) else {
+    let Some((field, arguments)) = access_of(b"put", call) else {
         return Ok(None);
     };
-    two_plain_sums_of(alloc, arguments)
+    let Some((key, value)) = two_plain_sums_of(alloc, arguments)? else {
+        return Ok(None);
+    };
+    Ok(Some((copy_name(alloc, field)?, key, value)))
 }
 
 fn returned_of(item: &BlockItem) -> Option<&Value>
@@ -146,54 +152,93 @@ fn local_of(item: &BlockItem) -> Option<(&Name, &Value)>
     }
 }
 
-/// A body of one statement.
-#[tactic(auto, using(crate::proofs::Layers::access_none))]
-fn access_of(alloc: Global, field: &Name, item: &BlockItem) -> Result<Option<Body>, AllocError>
-    ensures { IfOk result (PartsOf (body_tree field.now) (item.now ∷ [])) }
-{
-    if let Some((key, value)) = put_of(alloc, field, item)? {
-        return Ok(Some(Body::Put { key, value }));
-    }
-    let Some(value) = returned_of(item) else {
-        return Ok(None);
-    };
-    let Some(key) = key_of(alloc, field, value)? else {
-        return Ok(None);
-    };
-    Ok(Some(Body::Get { key }))
-}
-
-/// A body that takes a value into a local and returns a sum.
-fn get_into_of(
+/// The declaration of a local with this name and this value.
+fn declaration_of(
     alloc: Global,
-    field: &Name,
-    first: &BlockItem,
-    second: &BlockItem,
-) -> Result<Option<Body>, AllocError>
-    ensures { IfOk result (PartsOf (body_tree field.now) (first.now ∷ second.now ∷ [])) }
+    local: &Name,
+    value: &Value,
+) -> Result<Option<Statement>, AllocError>
+    ensures { IfOk result (PartsOf statement_tree (long_local local.now value.now)) }
 {
-    let Some((local, value)) = local_of(first) else {
-        return Ok(None);
-    };
-    let Some(key) = key_of(alloc, field, value)? else {
-        return Ok(None);
-    };
-    let Some(value) = returned_of(second) else {
-        return Ok(None);
-    };
-    let Some(result) = plain_sum_of(alloc, value)? else {
+    if let Some((field, key)) = got_of(alloc, value)? {
+        let local = copy_name(alloc, local)?;
+        return Ok(Some(Statement::Get { local, field, key }));
+    }
+    let Some(value) = plain_sum_of(alloc, value)? else {
         return Ok(None);
     };
     let local = copy_name(alloc, local)?;
-    Ok(Some(Body::GetInto { local, key, result }))
+    Ok(Some(Statement::Set { local, value }))
 }
 
-pub fn body_of(alloc: Global, field: &Name, items: &[BlockItem]) -> Result<Option<Body>, AllocError>
-    ensures { IfOk result (PartsOf (body_tree field.now) items.now) }
+fn statement_of(alloc: Global, item: &BlockItem) -> Result<Option<Statement>, AllocError>
+    ensures { IfOk result (PartsOf statement_tree item.now) }
 {
-    match items {
-        [item] => access_of(alloc, field, item),
-        [first, second] => get_into_of(alloc, field, first, second),
-        _ => Ok(None),
+    if let Some((local, value)) = local_of(item) {
+        return declaration_of(alloc, local, value);
+    }
+    let Some((field, key, value)) = put_of(alloc, item)? else {
+        return Ok(None);
+    };
+    Ok(Some(Statement::Put { field, key, value }))
+}
+
+#[tactic(auto, using(crate::proofs::Maps::map_more, crate::proofs::Maps::map_all, crate::proofs::Maps::map_none))]
+fn statements_of(alloc: Global, items: &[BlockItem]) -> Result<Option<Items<Statement>>, AllocError>
+    ensures { IfOk result (PartsOf (map statement_tree) items.now) }
+{
+    let mut statements = Items::new(alloc);
+    for item in items {
+        let Some(statement) = statement_of(alloc, item)? else {
+            return Ok(None);
+        };
+        statements.push(statement)?;
+    }
+    Ok(Some(statements))
+}
+
+/// What a `return` of the form ends a body with.
+fn ending_of(alloc: Global, item: &BlockItem) -> Result<Option<Ending>, AllocError>
+    ensures { IfOk result (PartsOf ending_tree (item.now ∷ [])) }
+{
+    let Some(value) = returned_of(item) else {
+        return Ok(None);
+    };
+    if let Some((field, key)) = got_of(alloc, value)? {
+        return Ok(Some(Ending::Get { field, key }));
+    }
+    let Some(value) = plain_sum_of(alloc, value)? else {
+        return Ok(None);
+    };
+    Ok(Some(Ending::Sum { value }))
+}
+
+/// The statements, with the ending that stands behind them.
+fn ended_by(
+    alloc: Global,
+    items: &[BlockItem],
+    ending: Ending,
+) -> Result<Option<(Items<Statement>, Ending)>, AllocError>
+    ensures { IfOk result (StatementsBefore ending items.now) }
+{
+    let Some(statements) = statements_of(alloc, items)? else {
+        return Ok(None);
+    };
+    Ok(Some((statements, ending)))
+}
+
+/// The statements and the ending of a body.
+pub fn body_of(
+    alloc: Global,
+    items: &[BlockItem],
+) -> Result<Option<(Items<Statement>, Ending)>, AllocError>
+    ensures { IfOk result (PartsOf paired_body items.now) }
+{
+    let Some((last, front)) = items.split_last() else {
+        return ended_by(alloc, items, Ending::Nothing);
+    };
+    match ending_of(alloc, last)? {
+        Some(ending) => ended_by(alloc, front, ending),
+        None => ended_by(alloc, items, Ending::Nothing),
     }
 }

@@ -1,17 +1,19 @@
-//! Names and literals: which are known, distinct and free.
+//! Names of declarations: which are distinct and free, and whether a class is proper.
 
-ghost use Rattle.std.specs.Prelude.{◌≡◌, ◌↔◌, ◌∷◌, ◌++◌, map, IsTrue, IfOk, All, Contains};
+ghost use Rattle.std.specs.Prelude.{◌≡◌, ◌↔◌, ◌∷◌, ◌++◌, ◌<◌, ◌≤◌, ◌^◌, map, length, IsTrue, IfOk, OnOk, All, Contains};
 ghost use Rattle.std.specs.List.{Any};
-ghost use Rattle.early_forms.specs.Names.{class_names, AreDistinct, AtomIsKnown, SumIsKnown, BodyIsKnown, MethodIsProper, IsProper, variables};
+ghost use Rattle.early_forms.specs.Names.{class_names, AreFree, AreDistinct, MethodIsProper, IsProper, HasFormSize, declared_names, locals, variables};
 
-use crate::first::{Atom, Body, FirstClass, FirstMethod, Sum};
+use crate::scope::{body_is_known, declared_by};
+use crate::straight::{Statement, StraightClass, StraightMethod};
 use sdg_base::Name;
-use sqlite_items::Items;
 use std::alloc::{AllocError, Global};
 use std::collections::BTreeSet;
 
-/// The first number that is no literal of type `int` (JLS 3.10.1).
-const INT_END: u64 = 0x8000_0000;
+const FIELDS_MAX: usize = 2;
+
+/// As many methods as a number of 16 bits can name.
+const METHODS_MAX: usize = 0x1_0000;
 
 fn are_distinct(alloc: Global, names: &[&[u8]]) -> Result<bool, AllocError>
     ensures { IfOk result (λ b. IsTrue b ↔ AreDistinct (map (λ name. name.now) names.now)) }
@@ -39,121 +41,108 @@ fn has_class_name(names: &[&[u8]]) -> bool
 }
 
 fn are_free(names: &[&[u8]]) -> bool
-    ensures { IsTrue result ↔ All (λ name. Contains class_names name → ⊥) (map (λ name. name.now) names.now) }
+    ensures { IsTrue result ↔ AreFree (map (λ name. name.now) names.now) }
 {
     !has_class_name(names)
 }
 
-fn is_among(names: &[&[u8]], name: &Name) -> bool
-    ensures { IsTrue result ↔ Any (λ known. known.now ≡ name.now) names.now }
+fn add_names<'a>(texts: &mut Vec<&'a [u8]>, names: &'a [Name]) -> Result<(), AllocError>
+    ensures { OnOk result (map (λ text. text.now) texts.new.items ≡ map (λ text. text.now) texts.old.items ++ names.now) }
 {
-    names.iter().any(|known| *known == name.as_slice())
-}
-
-fn atom_is_known(variables: &[&[u8]], atom: &Atom) -> bool
-    ensures { IsTrue result ↔ AtomIsKnown (map (λ name. name.now) variables.now) atom.now }
-{
-    match atom {
-        Atom::Literal(n) => *n < INT_END,
-        Atom::Variable(name) => is_among(variables, name),
+    for name in names {
+        texts.push(name.as_slice())?;
     }
+    Ok(())
 }
 
-fn atoms_are_known(variables: &[&[u8]], atoms: &Items<Atom>) -> bool
-    ensures { IsTrue result ↔ All (AtomIsKnown (map (λ name. name.now) variables.now)) atoms.now }
+fn add_local<'a>(texts: &mut Vec<&'a [u8]>, statement: &'a Statement) -> Result<(), AllocError>
+    ensures { OnOk result (map (λ text. text.now) texts.new.items ≡ map (λ text. text.now) texts.old.items ++ declared_names statement.now) }
 {
-    atoms
-        .as_slice()
-        .iter()
-        .all(|atom| atom_is_known(variables, atom))
+    if let Some(local) = declared_by(statement) {
+        texts.push(local.as_slice())?;
+    }
+    Ok(())
 }
 
-fn sum_is_known(variables: &[&[u8]], sum: &Sum) -> bool
-    ensures { IsTrue result ↔ SumIsKnown (map (λ name. name.now) variables.now) sum.now }
+fn add_locals<'a>(texts: &mut Vec<&'a [u8]>, statements: &'a [Statement]) -> Result<(), AllocError>
+    ensures { OnOk result (map (λ text. text.now) texts.new.items ≡ map (λ text. text.now) texts.old.items ++ locals statements.now) }
 {
-    atom_is_known(variables, &sum.first) && atoms_are_known(variables, &sum.others)
+    for statement in statements {
+        add_local(texts, statement)?;
+    }
+    Ok(())
 }
 
-#[tactic(auto, using(crate::proofs::Maps::map_more, crate::proofs::Maps::map_all))]
 fn texts_of(alloc: Global, names: &[Name]) -> Result<Vec<&[u8]>, AllocError>
     ensures { IfOk result (λ v. map (λ text. text.now) v.items ≡ names.now) }
 {
     let mut texts = Vec::new(alloc);
-    for name in names {
-        texts.push(name.as_slice())?;
-    }
+    add_names(&mut texts, names)?;
     Ok(texts)
 }
 
-fn texts_with<'a>(
+/// Names, and behind them those of the method's variables.
+fn names_with<'a>(
+    alloc: Global,
+    first: &'a [Name],
+    method: &'a StraightMethod,
+) -> Result<Vec<&'a [u8]>, AllocError>
+    ensures { IfOk result (λ v. map (λ text. text.now) v.items ≡ first.now ++ variables method.now) }
+{
+    let mut texts = texts_of(alloc, first)?;
+    add_names(&mut texts, method.parameters.as_slice())?;
+    add_locals(&mut texts, method.statements.as_slice())?;
+    Ok(texts)
+}
+
+fn names_after<'a>(
     alloc: Global,
     first: &'a Name,
-    others: &'a [Name],
+    names: &'a [Name],
 ) -> Result<Vec<&'a [u8]>, AllocError>
-    ensures { IfOk result (λ v. map (λ text. text.now) v.items ≡ first.now ∷ others.now) }
+    ensures { IfOk result (λ v. map (λ text. text.now) v.items ≡ first.now ∷ names.now) }
 {
-    let mut texts = texts_of(alloc, others)?;
+    let mut texts = texts_of(alloc, names)?;
     texts.insert(0, first.as_slice())?;
     Ok(texts)
 }
 
-/// A name, and those of the method's variables.
-fn scope_of<'a>(
-    alloc: Global,
-    first: &'a Name,
-    method: &'a FirstMethod,
-) -> Result<Vec<&'a [u8]>, AllocError>
-    ensures { IfOk result (λ v. map (λ text. text.now) v.items ≡ first.now ∷ variables method.now) }
+/// The names of a method: its own, and those of its variables.
+fn names_of(alloc: Global, method: &StraightMethod) -> Result<Vec<&[u8]>, AllocError>
+    ensures { IfOk result (λ v. map (λ text. text.now) v.items ≡ (method.now).name ∷ variables method.now) }
 {
-    let mut texts = texts_with(alloc, first, method.parameters.as_slice())?;
-    if let Body::GetInto { local, .. } = &method.body {
-        texts.push(local.as_slice())?;
-    }
+    let mut texts = names_after(alloc, &method.name, method.parameters.as_slice())?;
+    add_locals(&mut texts, method.statements.as_slice())?;
     Ok(texts)
 }
 
-fn body_is_known(alloc: Global, parameters: &[Name], body: &Body) -> Result<bool, AllocError>
-    ensures { IfOk result (λ b. IsTrue b ↔ BodyIsKnown parameters.now body.now) }
+fn method_is_proper(
+    alloc: Global,
+    fields: &[Name],
+    method: &StraightMethod,
+) -> Result<bool, AllocError>
+    ensures { IfOk result (λ b. IsTrue b ↔ MethodIsProper fields.now method.now) }
 {
-    let variables = texts_of(alloc, parameters)?;
-    match body {
-        Body::Put { key, value } => {
-            Ok(sum_is_known(variables.as_slice(), key) && sum_is_known(variables.as_slice(), value))
-        }
-        Body::Get { key } => Ok(sum_is_known(variables.as_slice(), key)),
-        Body::GetInto { local, key, result } => {
-            let with_local = texts_with(alloc, local, parameters)?;
-            Ok(
-                sum_is_known(with_local.as_slice(), result)
-                    && sum_is_known(variables.as_slice(), key),
-            )
-        }
-    }
-}
-
-fn method_is_proper(alloc: Global, field: &Name, method: &FirstMethod) -> Result<bool, AllocError>
-    ensures { IfOk result (λ b. IsTrue b ↔ MethodIsProper field.now method.now) }
-{
-    let in_class = scope_of(alloc, field, method)?;
+    let in_class = names_with(alloc, fields, method)?;
     if !are_distinct(alloc, in_class.as_slice())? {
         return Ok(false);
     }
-    if !body_is_known(alloc, method.parameters.as_slice(), &method.body)? {
+    if !body_is_known(alloc, fields, method)? {
         return Ok(false);
     }
-    let named = scope_of(alloc, &method.name, method)?;
-    Ok(are_free(named.as_slice()))
+    let own = names_of(alloc, method)?;
+    Ok(are_free(own.as_slice()))
 }
 
 fn methods_are_proper(
     alloc: Global,
-    field: &Name,
-    methods: &[FirstMethod],
+    fields: &[Name],
+    methods: &[StraightMethod],
 ) -> Result<bool, AllocError>
-    ensures { IfOk result (λ b. IsTrue b ↔ All (MethodIsProper field.now) methods.now) }
+    ensures { IfOk result (λ b. IsTrue b ↔ All (MethodIsProper fields.now) methods.now) }
 {
     for method in methods {
-        if !method_is_proper(alloc, field, method)? {
+        if !method_is_proper(alloc, fields, method)? {
             return Ok(false);
         }
     }
@@ -161,7 +150,7 @@ fn methods_are_proper(
 }
 
 #[tactic(auto, using(crate::proofs::Maps::maps_more, std::proofs::lemmas::List::take_all))]
-fn method_names(alloc: Global, methods: &[FirstMethod]) -> Result<Vec<&[u8]>, AllocError>
+fn method_names(alloc: Global, methods: &[StraightMethod]) -> Result<Vec<&[u8]>, AllocError>
     ensures { IfOk result (λ v. map (λ text. text.now) v.items ≡ map (λ m. m.name) methods.now) }
 {
     let mut names = Vec::new(alloc);
@@ -171,23 +160,53 @@ fn method_names(alloc: Global, methods: &[FirstMethod]) -> Result<Vec<&[u8]>, Al
     Ok(names)
 }
 
-/// Whether the names and literals of a class are such that it means something: its methods have
-/// different names, no parameter or local has the name of another or of the table, each variable is
-/// read only where it is declared, each literal is of type `int` (JLS 3.10.1), and nothing has the
-/// name of the vector or of a class that holds state.
+fn methods_differ(alloc: Global, methods: &[StraightMethod]) -> Result<bool, AllocError>
+    ensures { IfOk result (λ b. IsTrue b ↔ AreDistinct (map (λ m. m.name) methods.now)) }
+{
+    let names = method_names(alloc, methods)?;
+    are_distinct(alloc, names.as_slice())
+}
+
+fn fields_differ(alloc: Global, fields: &[Name]) -> Result<bool, AllocError>
+    ensures { IfOk result (λ b. IsTrue b ↔ AreDistinct fields.now) }
+{
+    let names = texts_of(alloc, fields)?;
+    are_distinct(alloc, names.as_slice())
+}
+
+fn class_is_free(alloc: Global, class: &StraightClass) -> Result<bool, AllocError>
+    ensures { let c = class.now in IfOk result (λ b. IsTrue b ↔ AreFree (c.name ∷ c.fields)) }
+{
+    let names = names_after(alloc, &class.name, class.fields.as_slice())?;
+    Ok(are_free(names.as_slice()))
+}
+
+fn has_form_size(class: &StraightClass) -> bool
+    ensures { IsTrue result ↔ HasFormSize class.now }
+{
+    let fields = class.fields.len();
+    0 < fields && fields <= FIELDS_MAX && class.methods.len() <= METHODS_MAX
+}
+
+/// Whether the sizes, names and literals of a class are such that it means something: it has one or
+/// two fields and not too many methods, its fields have different names and so have its methods, no
+/// parameter or local has the name of another or of a field, each variable is read only where it is
+/// declared before, each literal is of type `int` (JLS 3.10.1), and nothing has the name of the
+/// vector or of a class that holds state.
 ///
 /// # Errors
 ///
 /// There is no memory left.
-pub fn is_proper(alloc: Global, class: &FirstClass) -> Result<bool, AllocError>
+pub fn is_proper(alloc: Global, class: &StraightClass) -> Result<bool, AllocError>
     ensures { IfOk result (λ b. IsTrue b ↔ IsProper class.now) }
 {
-    let names = method_names(alloc, class.methods.as_slice())?;
-    if !are_distinct(alloc, names.as_slice())? {
+    let fields = class.fields.as_slice();
+    let methods = class.methods.as_slice();
+    if !has_form_size(class) || !fields_differ(alloc, fields)? {
         return Ok(false);
     }
-    if !methods_are_proper(alloc, &class.field, class.methods.as_slice())? {
+    if !methods_differ(alloc, methods)? || !methods_are_proper(alloc, fields, methods)? {
         return Ok(false);
     }
-    Ok(are_free(&[class.name.as_slice(), class.field.as_slice()]))
+    class_is_free(alloc, class)
 }

@@ -1,12 +1,12 @@
-//! The parts of a class's tree, where it has the productions of the first form.
+//! The parts of a class's tree, where it has the productions of the straight form.
 
 ghost use Rattle.std.specs.Prelude.{◌≡◌, ◌↔◌, [], ◌∷◌, map, codes, IsTrue, IfOk};
 ghost use Rattle.std.specs.Option.{option_copied};
-ghost use Rattle.early_forms.specs.Trees.{result_of, long_parameter, method_tree, table_member, class_tree};
-ghost use Rattle.early_forms.specs.Parts.{PartsOf, MembersOf};
+ghost use Rattle.early_forms.specs.Trees.{result_of, long_parameter, method_tree, table_member, method_member, class_tree};
+ghost use Rattle.early_forms.specs.Parts.{PartsOf, TablesAtHead, MembersOf};
 
 use crate::bodies::body_of;
-use crate::first::{Body, FirstClass, FirstMethod};
+use crate::straight::{Ending, StraightClass, StraightMethod};
 use crate::sums::copy_name;
 use java_tree::{Class, FieldModifier, Member, Method, Param, ResultType, TypeName};
 use sdg_base::Name;
@@ -36,54 +36,47 @@ fn parameters_of(alloc: Global, parameters: &[Param]) -> Result<Option<Items<Nam
     Ok(Some(names))
 }
 
-fn is_result_of(result_type: &ResultType, body: &Body) -> bool
-    ensures { IsTrue result ↔ (result_type.now ≡ result_of body.now) }
+fn is_result_of(result_type: &ResultType, ending: &Ending) -> bool
+    ensures { IsTrue result ↔ (result_type.now ≡ result_of ending.now) }
 {
-    match (body, result_type) {
-        (Body::Put { .. }, ResultType::Void) => true,
-        (Body::Put { .. }, _) => false,
+    match (ending, result_type) {
+        (Ending::Nothing, ResultType::Void) => true,
+        (Ending::Nothing, _) => false,
         (_, ResultType::Type(TypeName::Long)) => true,
         _ => false,
     }
 }
 
-#[tactic(auto, using(crate::proofs::Layers::result_of_body))]
-fn method_of(
-    alloc: Global,
-    field: &Name,
-    method: &Method,
-) -> Result<Option<FirstMethod>, AllocError>
-    ensures { IfOk result (PartsOf (method_tree field.now) method.now) }
+#[tactic(auto, using(crate::proofs::Injective::body_result))]
+fn method_of(alloc: Global, method: &Method) -> Result<Option<StraightMethod>, AllocError>
+    ensures { IfOk result (PartsOf method_tree method.now) }
 {
     if !method.modifiers.is_empty() {
         return Ok(None);
     }
-    let Some(body) = body_of(alloc, field, method.body.as_slice())? else {
+    let Some((statements, ending)) = body_of(alloc, method.body.as_slice())? else {
         return Ok(None);
     };
-    if !is_result_of(&method.result, &body) {
+    if !is_result_of(&method.result, &ending) {
         return Ok(None);
     }
     let Some(parameters) = parameters_of(alloc, method.params.as_slice())? else {
         return Ok(None);
     };
     let name = copy_name(alloc, &method.name)?;
-    Ok(Some(FirstMethod {
+    Ok(Some(StraightMethod {
         name,
         parameters,
-        body,
+        statements,
+        ending,
     }))
 }
 
-fn member_of(
-    alloc: Global,
-    field: &Name,
-    member: &Member,
-) -> Result<Option<FirstMethod>, AllocError>
-    ensures { IfOk result (PartsOf (λ m. Member.Method (method_tree field.now m)) member.now) }
+fn member_of(alloc: Global, member: &Member) -> Result<Option<StraightMethod>, AllocError>
+    ensures { IfOk result (PartsOf method_member member.now) }
 {
     match member {
-        Member::Method(method) => method_of(alloc, field, method),
+        Member::Method(method) => method_of(alloc, method),
         Member::Field(_) => Ok(None),
     }
 }
@@ -91,14 +84,13 @@ fn member_of(
 #[tactic(auto, using(crate::proofs::Maps::map_more, crate::proofs::Maps::map_all, crate::proofs::Maps::map_none))]
 fn methods_of(
     alloc: Global,
-    field: &Name,
     members: &[Member],
-) -> Result<Option<Items<FirstMethod>>, AllocError>
-    ensures { IfOk result (PartsOf (map (λ m. Member.Method (method_tree field.now m))) members.now) }
+) -> Result<Option<Items<StraightMethod>>, AllocError>
+    ensures { IfOk result (PartsOf (map method_member) members.now) }
 {
     let mut methods = Items::new(alloc);
     for member in members {
-        let Some(method) = member_of(alloc, field, member)? else {
+        let Some(method) = member_of(alloc, member)? else {
             return Ok(None);
         };
         methods.push(method)?;
@@ -136,38 +128,46 @@ fn table_of(member: &Member) -> Option<&Name>
     }
 }
 
+fn tables_of(alloc: Global, members: &[Member]) -> Result<Items<Name>, AllocError>
+    ensures { IfOk result (TablesAtHead members.now) }
+{
+    let mut fields = Items::new(alloc);
+    for member in members {
+        let Some(field) = table_of(member) else {
+            return Ok(fields);
+        };
+        fields.push(copy_name(alloc, field)?)?;
+    }
+    Ok(fields)
+}
+
 fn members_of(
     alloc: Global,
     name: &Name,
     members: &[Member],
-) -> Result<Option<FirstClass>, AllocError>
+) -> Result<Option<StraightClass>, AllocError>
     ensures { IfOk result (MembersOf name.now members.now) }
 {
-    let Some((table, methods)) = members.split_first() else {
-        return Ok(None);
-    };
-    let Some(field) = table_of(table) else {
-        return Ok(None);
-    };
-    let Some(methods) = methods_of(alloc, field, methods)? else {
+    let fields = tables_of(alloc, members)?;
+    let (_, others) = members.split_at(fields.len());
+    let Some(methods) = methods_of(alloc, others)? else {
         return Ok(None);
     };
     let name = copy_name(alloc, name)?;
-    let field = copy_name(alloc, field)?;
-    Ok(Some(FirstClass {
+    Ok(Some(StraightClass {
         name,
-        field,
+        fields,
         methods,
     }))
 }
 
-/// The parts of a class's tree, or `None` where it has not the productions of the first form,
+/// The parts of a class's tree, or `None` where it has not the productions of the straight form,
 /// whatever its names.
 ///
 /// # Errors
 ///
 /// There is no memory left.
-pub fn parts_of(alloc: Global, class: &Class) -> Result<Option<FirstClass>, AllocError>
+pub fn parts_of(alloc: Global, class: &Class) -> Result<Option<StraightClass>, AllocError>
     ensures { IfOk result (PartsOf class_tree class.now) }
 {
     if class.package.is_some() || !class.imports.is_empty() || !class.modifiers.is_empty() {

@@ -4,7 +4,7 @@ ghost use Rattle.std.specs.Prelude.{◌≡◌, map, IfOk};
 ghost use Rattle.early_forms.specs.Trees.{atom_tree, plus, sum_tree};
 ghost use Rattle.early_forms.specs.Parts.{PartsOf};
 
-use crate::first::{Atom, Sum};
+use crate::straight::{Atom, Sum};
 use java_tree::{Expr, Operation};
 use sdg_base::{BinOp, Name};
 use sqlite_items::Items;

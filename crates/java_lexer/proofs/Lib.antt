@@ -1,6 +1,9 @@
 pub mod Runs
-pub mod Numerals
+pub mod Literals
+pub mod Spaces
 pub mod Tables
 pub mod Firsts
 pub mod Fronts
+pub mod Laws
 pub mod Steps
+pub mod Positions

@@ -3,11 +3,7 @@ use Rattle.std.proofs.Common.{◌≡◌, ℕ, suc, ◌+◌, ◌<◌, Bool, true,
 use Rattle.std.specs.List.{list_all, prefix_len}
 use Rattle.std.proofs.lemmas.Bool.{and_parts, and_from, false≢true}
 use Rattle.std.proofs.lemmas.List.{take_at, drop_at}
-
--- a text begins with a byte that passes
-abbrev pub begins : (ℕ → Bool) → List ℕ → Bool
-begins p [] = false
-begins p (b ∷ bytes) = p b
+use Rattle.java_lexer.specs.Spelling.{begins}
 
 pub begins-append : (p : ℕ → Bool) (front rest : List ℕ) → 0 < length front → begins p (front ++ rest) ≡ begins p front
 begins-append p [] rest h = absurd (omega arith)

@@ -1,12 +1,15 @@
 //! The tokens of a text, with their places.
 #![tactic(auto)]
 
+mod element;
+mod lexer;
 mod number;
 mod place;
-mod plain;
+mod run;
+mod space;
 mod table;
 
-pub use plain::{PlainError, lex_plain};
+pub use lexer::{LexError, lex, one_answer};
 
 #[cfg(test)]
 mod tests;

@@ -1,28 +1,33 @@
--- What reading the parts says of the tree.
-use Rattle.std.proofs.Common.{◌≡◌, Some, refl, sym, ap, ◌∙◌}
-use Rattle.std.proofs.lemmas.Option.{same_Some, none-some}
+-- What reading the tokens says of the tree.
+use Rattle.std.proofs.Common.{◌≡◌, ◌≤◌, Result, Ok, Err, refl, sym, ◌∙◌}
 use Rattle.java_tree.specs.declared.tree.Class.{Class}
 use Rattle.java_tree.specs.Tokens.{Kinds, tokens_of}
-use Rattle.early_forms.specs.declared.first.FirstClass.{FirstClass}
-use Rattle.early_forms.specs.Trees.{class_tree}
-use Rattle.early_forms.specs.Forms.{HasFirstShape}
+use Rattle.java_tree.specs.Placed.{IsWellPlaced}
+use Rattle.java_tree.specs.Heights.{height, max_levels}
+use Rattle.java_tree.specs.declared.token.Place.{Place}
 use Rattle.java_parser.specs.declared.error.ParseError.{ParseError}
 use Rattle.java_parser.specs.declared.error.ParseError.TheVariants as errors
-use Rattle.java_parser.specs.Reading.{Fails, class_at}
-use Rattle.java_parser.proofs.Spelling.{class-tree}
-use Rattle.java_parser.proofs.Takes.{class_takes}
-use Rattle.java_parser.proofs.Again.{class_again}
+use Rattle.java_parser.specs.declared.error.Refusal.{Refusal}
+use Rattle.java_parser.specs.declared.error.Refusal.TheVariants as refusal
+use Rattle.java_parser.specs.Errors.{start, error_of}
+use Rattle.java_parser.specs.Words.{Fails}
+use Rattle.java_parser.specs.Classes.{class_at, body_levels}
+use Rattle.java_parser.proofs.Laws.{same_Ok}
+use Rattle.java_parser.proofs.ClassLaws.{is_read}
 
-pub is_found : (ks : Kinds) (parts : FirstClass) (c : Class) → class_at ks ≡ Some parts → c ≡ class_tree parts → HasFirstShape c × (tokens_of c ≡ ks)
-is_found ks parts c read made = ((parts, made), ap tokens_of made ∙ class-tree parts ∙ sym (class_takes ks parts read))
-
-pub is_read : (ks : Kinds) (c : Class) (shape : HasFirstShape c) → tokens_of c ≡ ks → class_at ks ≡ Some shape.0
-is_read ks c shape e = ap class_at (sym e ∙ ap tokens_of shape.1 ∙ class-tree shape.0) ∙ class_again shape.0
-
-pub is_only : (ks : Kinds) (parts : FirstClass) (made c : Class) → class_at ks ≡ Some parts → made ≡ class_tree parts → HasFirstShape c → tokens_of c ≡ ks → made ≡ c
-is_only ks parts made c read made_is shape e = made_is ∙ ap class_tree (same_Some parts shape.0 (sym read ∙ is_read ks c shape e)) ∙ sym shape.1
+pub is_only : (ks : Kinds) (made c : Class) → class_at body_levels ks ≡ Ok made → tokens_of c ≡ ks → IsWellPlaced c → height c ≤ max_levels → made ≡ c
+is_only ks made c read e placed low = same_Ok made c (sym read ∙ is_read ks c e placed low)
 
 -- where there is a tree, reading fails for want of memory alone
-pub is_memory : (e : ParseError) (ks : Kinds) (c : Class) → Fails e (class_at ks) → HasFirstShape c → tokens_of c ≡ ks → e ≡ errors.Memory
-is_memory errors.Memory ks c failed shape e = refl
-is_memory (errors.NoClass place) ks c failed shape e = absurd (none-some shape.0 (sym failed.0 ∙ is_read ks c shape e))
+pub is_memory : (r : Refusal) (ks : Kinds) (c : Class) → Fails r (class_at body_levels ks) → tokens_of c ≡ ks → IsWellPlaced c → height c ≤ max_levels → error_of r ≡ errors.Memory
+is_memory refusal.Memory ks c failed e placed low = refl
+is_memory (refusal.NoClass left) ks c failed e placed low = absurd (let read = is_read ks c e placed low in cc)
+is_memory (refusal.TooDeep left) ks c failed e placed low = absurd (let read = is_read ks c e placed low in cc)
+
+pub same_error : (a b : ParseError) → ◌≡◌ {A = Result Class ParseError} (Err a) (Err b) → a ≡ b
+same_error a b e = cc
+
+pub is_start : (r : Refusal) (place : Place) → error_of r ≡ errors.NoClass place → place ≡ start
+is_start (refusal.NoClass left) place e = cc
+is_start (refusal.TooDeep left) place e = cc
+is_start refusal.Memory place e = absurd cc

@@ -1,74 +1,89 @@
--- The tokens of the nodes that a tree of the first form has.
-use Rattle.std.proofs.Common.{◌≡◌, ℕ, true, false, List, [], ◌∷◌, ◌++◌, map, Some, refl, sym, ap, ◌∙◌}
+-- The tokens of each kind of expression.
+use Rattle.std.proofs.Common.{◌≡◌, ℕ, Bool, true, false, ◌&&◌, List, [], ◌∷◌, ◌++◌, map, nat_eq, nat_lt, refl, sym, ap, ◌∙◌, append_assoc}
 use Rattle.std.specs.List.{flat_map}
-use Rattle.sdg_base.specs.declared.operator.BinOp.TheVariants as bin
+use Rattle.sdg_base.specs.declared.operator.BinOp.{BinOp}
+use Rattle.sdg_base.specs.declared.operator.UnOp.{UnOp}
+use Rattle.sdg_base.specs.declared.val.Num.{Num}
 use Rattle.java_tree.specs.declared.token.Kind.TheVariants as k
-use Rattle.java_tree.specs.declared.token.Symbol.TheVariants as symbol
 use Rattle.java_tree.specs.declared.token.Reserved.TheVariants as word
 use Rattle.java_tree.specs.declared.tree.Expr.{Expr}
 use Rattle.java_tree.specs.declared.tree.Expr.TheVariants as e
-use Rattle.java_tree.specs.declared.tree.Operation.{Operation, roll-Operation}
+use Rattle.java_tree.specs.declared.tree.Operation.{Operation}
 use Rattle.java_tree.specs.declared.tree.Value.{Value}
 use Rattle.java_tree.specs.declared.tree.CallForm.{CallForm}
 use Rattle.java_tree.specs.declared.tree.CallForm.TheVariants as call
-use Rattle.java_tree.specs.declared.tree.CallForm.TheOpen as open_e
-use Rattle.java_tree.specs.declared.tree.CallForm.TheFolds.{fold-Operation, fold-roll-Expr, fold-roll-Operation, fold-roll-Value, fold-roll-CallForm}
-use Rattle.java_tree.specs.declared.tree.BlockItem.TheVariants as item
-use Rattle.java_tree.specs.declared.tree.Stmt.{Stmt}
-use Rattle.java_tree.specs.declared.tree.Stmt.TheVariants as stmt
-use Rattle.java_tree.specs.declared.tree.Simple.{Simple}
-use Rattle.java_tree.specs.declared.tree.Local.{Local}
-use Rattle.java_tree.specs.declared.tree.BlockItem.TheOpen as open_s
-use Rattle.java_tree.specs.declared.tree.BlockItem.TheFolds.{fold-Stmt, fold-roll-BlockItem, fold-roll-Stmt}
-use Rattle.java_tree.specs.Tokens.{Kinds, in_parentheses, separated, expr_step, operation_step, value_step, call_step, expr_tokens, value_tokens, call_tokens, local_tokens, simple_tokens, item_step, statement_step, item_tokens}
-use Rattle.early_forms.specs.Trees.{plain}
-
-abbrev pub operation_tokens : Operation → Kinds
-operation_tokens = fold-Operation Kinds Kinds Kinds Kinds call_step expr_step operation_step value_step
-
-abbrev pub statement_tokens : Stmt → Kinds
-statement_tokens = fold-Stmt Kinds Kinds item_step statement_step
-
-pub number_tokens : (n : ℕ) → expr_tokens (e.Number n true false) ≡ k.Number n true false ∷ []
-number_tokens n = ap expr_tokens (sym (e.rolls-Number n true false)) ∙ fold-roll-Expr Kinds Kinds Kinds Kinds call_step expr_step operation_step value_step (open_e.Number n true false)
-
-pub name_tokens : (name : List ℕ) → expr_tokens (e.Name name) ≡ k.Identifier name ∷ []
-name_tokens name = ap expr_tokens (sym (e.rolls-Name name)) ∙ fold-roll-Expr Kinds Kinds Kinds Kinds call_step expr_step operation_step value_step (open_e.Name name)
+use Rattle.java_tree.specs.declared.tree.CallForm.TheFolds.{fold-Operation}
+use Rattle.java_parser.specs.Expressions.{operation, valued, question, colon}
+use Rattle.java_parser.specs.Members.{dot, comma, open_paren, close_paren, open_bracket, close_bracket}
+use Rattle.java_parser.proofs.TreeLayers as layer
+use Rattle.java_tree.specs.Tokens.{Kinds, in_parentheses, separated, global, unary_symbol, operator_symbol, number_type, expr_step, operation_step, value_step, call_step, expr_tokens, value_tokens, call_tokens}
 
 flat : {A : Type 0} (f : A → Kinds) (xs : List A) → flat_map (λ o. o) (map f xs) ≡ flat_map f xs
 flat f [] = refl
 flat f (x ∷ xs) = ap (λ (rest : Kinds). f x ++ rest) (flat f xs)
 
+unfoldable pub operation_tokens : Operation → Kinds
+operation_tokens = fold-Operation Kinds Kinds Kinds Kinds call_step expr_step operation_step value_step
+
+unfoldable pub args_tokens : List Value → Kinds
+args_tokens args = in_parentheses (separated (map value_tokens args))
+
+pub conditional_tokens : (test first second : Expr) → expr_tokens (e.Conditional test first second) ≡ expr_tokens test ++ (question ∷ (expr_tokens first ++ (colon ∷ expr_tokens second)))
+conditional_tokens test first second = layer.conditional Kinds Kinds Kinds Kinds call_step expr_step operation_step value_step test first second
+
 pub binary_tokens : (first : Expr) (operations : List Operation) → expr_tokens (e.Binary first operations) ≡ expr_tokens first ++ flat_map operation_tokens operations
-binary_tokens first operations =
-    ap expr_tokens (sym (e.rolls-Binary first operations))
-    ∙ fold-roll-Expr Kinds Kinds Kinds Kinds call_step expr_step operation_step value_step (open_e.Binary first operations)
-    ∙ ap (λ (rest : Kinds). expr_tokens first ++ rest) (flat operation_tokens operations)
+unfolding operation_tokens
+binary_tokens first operations = layer.binary Kinds Kinds Kinds Kinds call_step expr_step operation_step value_step first operations ∙ ap (λ (rest : Kinds). expr_tokens first ++ rest) (flat operation_tokens operations)
 
-pub added_tokens : (right : Expr) → operation_tokens (roll-Operation (record { op = bin.Add; right = right })) ≡ k.Symbol symbol.Plus ∷ expr_tokens right
-added_tokens right = fold-roll-Operation Kinds Kinds Kinds Kinds call_step expr_step operation_step value_step (record { op = bin.Add; right = right })
+pub unary_tokens : (op : UnOp) (x : Expr) → expr_tokens (e.Unary op x) ≡ k.Symbol (unary_symbol op) ∷ expr_tokens x
+unary_tokens op x = layer.unary Kinds Kinds Kinds Kinds call_step expr_step operation_step value_step op x
 
-pub plain_tokens : (x : Expr) → value_tokens (plain x) ≡ expr_tokens x
-plain_tokens x = fold-roll-Value Kinds Kinds Kinds Kinds call_step expr_step operation_step value_step (record { is_global = false; expr = x })
+pub cast_tokens : (to : Num) (x : Expr) → expr_tokens (e.Cast to x) ≡ in_parentheses (number_type to) ++ expr_tokens x
+cast_tokens to x = layer.cast Kinds Kinds Kinds Kinds call_step expr_step operation_step value_step to x
 
-pub call_expr_tokens : (c : CallForm) → expr_tokens (e.Call c) ≡ call_tokens c
-call_expr_tokens c = ap expr_tokens (sym (e.rolls-Call c)) ∙ fold-roll-Expr Kinds Kinds Kinds Kinds call_step expr_step operation_step value_step (open_e.Call c)
+pub number_tokens : (digits : ℕ) (decimal long : Bool) → expr_tokens (e.Number digits decimal long) ≡ k.Number digits decimal long ∷ []
+number_tokens digits decimal long = layer.number Kinds Kinds Kinds Kinds call_step expr_step operation_step value_step digits decimal long
 
-pub of_tokens : (object name : List ℕ) (args : List Value)
-    → call_tokens (call.Of object name args) ≡ k.Identifier object ∷ k.Symbol symbol.Dot ∷ k.Identifier name ∷ in_parentheses (separated (map value_tokens args))
-of_tokens object name args =
-    ap call_tokens (sym (call.rolls-Of object name args)) ∙ fold-roll-CallForm Kinds Kinds Kinds Kinds call_step expr_step operation_step value_step (open_e.Of object name args)
+pub true_tokens : expr_tokens (e.Bool true) ≡ k.Reserved word.True ∷ []
+true_tokens = layer.truth Kinds Kinds Kinds Kinds call_step expr_step operation_step value_step true
 
-pub local_item_tokens : (l : Local) → item_tokens (item.Local l) ≡ local_tokens l ++ k.Symbol symbol.Semicolon ∷ []
-local_item_tokens l = ap item_tokens (sym (item.rolls-Local l)) ∙ fold-roll-BlockItem Kinds Kinds item_step statement_step (open_s.Local l)
+pub false_tokens : expr_tokens (e.Bool false) ≡ k.Reserved word.False ∷ []
+false_tokens = layer.truth Kinds Kinds Kinds Kinds call_step expr_step operation_step value_step false
 
-statement_item_tokens : (s : Stmt) → item_tokens (item.Stmt s) ≡ statement_tokens s
-statement_item_tokens s = ap item_tokens (sym (item.rolls-Stmt s)) ∙ fold-roll-BlockItem Kinds Kinds item_step statement_step (open_s.Stmt s)
+pub paren_tokens : (x : Expr) → expr_tokens (e.Paren x) ≡ in_parentheses (expr_tokens x)
+paren_tokens x = layer.paren Kinds Kinds Kinds Kinds call_step expr_step operation_step value_step x
 
-pub simple_item_tokens : (s : Simple) → item_tokens (item.Stmt (stmt.Simple s)) ≡ simple_tokens s ++ k.Symbol symbol.Semicolon ∷ []
-simple_item_tokens s =
-    statement_item_tokens (stmt.Simple s) ∙ ap statement_tokens (sym (stmt.rolls-Simple s)) ∙ fold-roll-Stmt Kinds Kinds item_step statement_step (open_s.Simple s)
+pub maker_tokens : (name : List ℕ) (x : Expr) → expr_tokens (e.New name x) ≡ k.Reserved word.New ∷ k.Identifier name ∷ in_parentheses (expr_tokens x)
+maker_tokens name x = layer.maker Kinds Kinds Kinds Kinds call_step expr_step operation_step value_step name x
 
-pub return_tokens : (v : Value) → item_tokens (item.Stmt (stmt.Return (Some v))) ≡ k.Reserved word.Return ∷ (value_tokens v ++ k.Symbol symbol.Semicolon ∷ [])
-return_tokens v =
-    statement_item_tokens (stmt.Return (Some v)) ∙ ap statement_tokens (sym (stmt.rolls-Return (Some v))) ∙ fold-roll-Stmt Kinds Kinds item_step statement_step (open_s.Return (Some v))
+pub name_tokens : (name : List ℕ) → expr_tokens (e.Name name) ≡ k.Identifier name ∷ []
+name_tokens name = layer.name Kinds Kinds Kinds Kinds call_step expr_step operation_step value_step name
+
+pub index_tokens : (name : List ℕ) (x : Expr) → expr_tokens (e.Index name x) ≡ k.Identifier name ∷ open_bracket ∷ (expr_tokens x ++ close_bracket ∷ [])
+index_tokens name x = layer.index Kinds Kinds Kinds Kinds call_step expr_step operation_step value_step name x
+
+pub member_tokens : (object name : List ℕ) → expr_tokens (e.Member object name) ≡ k.Identifier object ∷ dot ∷ k.Identifier name ∷ []
+member_tokens object name = layer.member Kinds Kinds Kinds Kinds call_step expr_step operation_step value_step object name
+
+pub called_tokens : (c : CallForm) → expr_tokens (e.Call c) ≡ call_tokens c
+called_tokens c = layer.called Kinds Kinds Kinds Kinds call_step expr_step operation_step value_step c
+
+pub own_tokens : (name : List ℕ) (args : List Value) → call_tokens (call.Own name args) ≡ k.Identifier name ∷ args_tokens args
+unfolding args_tokens
+own_tokens name args = layer.own Kinds Kinds Kinds Kinds call_step expr_step operation_step value_step name args
+
+pub of_tokens : (object name : List ℕ) (args : List Value) → call_tokens (call.Of object name args) ≡ k.Identifier object ∷ dot ∷ k.Identifier name ∷ args_tokens args
+unfolding args_tokens
+of_tokens object name args = layer.of Kinds Kinds Kinds Kinds call_step expr_step operation_step value_step object name args
+
+pub of_member_tokens : (object : List ℕ) (at : Expr) (name : List ℕ) (args : List Value)
+    → call_tokens (call.OfMember object at name args) ≡ k.Identifier object ∷ open_bracket ∷ (expr_tokens at ++ (close_bracket ∷ dot ∷ k.Identifier name ∷ args_tokens args))
+unfolding args_tokens
+of_member_tokens object at name args = layer.of_member Kinds Kinds Kinds Kinds call_step expr_step operation_step value_step object at name args
+
+pub operated_tokens : (op : BinOp) (right : Expr) → operation_tokens (operation op right) ≡ k.Symbol (operator_symbol op) ∷ expr_tokens right
+unfolding operation_tokens
+operated_tokens op right = layer.operated Kinds Kinds Kinds Kinds call_step expr_step operation_step value_step op right
+
+pub valued_tokens : (is_global : Bool) (x : Expr) → value_tokens (valued is_global x) ≡ global is_global ++ expr_tokens x
+valued_tokens is_global x = layer.value Kinds Kinds Kinds Kinds call_step expr_step operation_step value_step is_global x

@@ -1,1 +1,11 @@
-pub mod Reading
+pub mod Words
+pub mod Errors
+pub mod Members
+pub mod Expressions
+pub mod Deeper
+pub mod Forms
+pub mod Simples
+pub mod Headers
+pub mod Statements
+pub mod Inner
+pub mod Classes

@@ -1,8 +1,7 @@
 //! Why no tree was read.
 
 ghost use Rattle.std.specs.Prelude.{◌≡◌};
-ghost use Rattle.java_parser.specs.Reading.{start};
-ghost use Rattle.java_parser.specs.declared.error.ParseError.TheVariants.{NoClass, Memory};
+ghost use Rattle.java_parser.specs.declared.error.Refusal.TheVariants.{Memory};
 
 use java_tree::Place;
 use std::alloc::AllocError;
@@ -17,19 +16,18 @@ pub enum ParseError {
     Memory,
 }
 
-impl From<AllocError> for ParseError {
-    ghost from_gives = { λ _ e. e ≡ Memory };
-
-    fn from(_: AllocError) -> ParseError {
-        ParseError::Memory
-    }
+/// Why a rule of the grammar read nothing, with how many tokens are left from the refused one on.
+#[derive(Clone, Copy, Debug, PartialEq, Eq)]
+pub(crate) enum Refusal {
+    NoClass { left: usize },
+    TooDeep { left: usize },
+    Memory,
 }
 
-/// The one spot that makes this error. It names the first place of the text.
-pub(crate) fn no_class() -> ParseError
-    ensures { result ≡ NoClass start }
-{
-    ParseError::NoClass {
-        place: Place { line: 1, column: 1 },
+impl From<AllocError> for Refusal {
+    ghost from_gives = { λ _ e. e ≡ Memory };
+
+    fn from(_: AllocError) -> Refusal {
+        Refusal::Memory
     }
 }

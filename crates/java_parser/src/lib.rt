@@ -1,14 +1,23 @@
-//! Reads the tokens of a class of the first form, and gives its syntax tree.
+//! Reads the tokens of a class, and gives its syntax tree.
 #![tactic(auto)]
 
-mod building;
+mod classes;
 mod error;
-mod grammar;
+mod expressions;
+mod forms;
+mod headers;
+mod members;
+mod operands;
 mod parsing;
+mod rows;
+mod simples;
+mod statements;
 mod words;
 
 pub use error::ParseError;
 pub use parsing::parse;
 
+#[cfg(test)]
+mod expression_tests;
 #[cfg(test)]
 mod tests;

@@ -1,18 +1,15 @@
+ghost use Rattle.std.specs.Prelude.{◌<◌};
+
 use crate::{ParseError, parse};
 use java_tree::{
-    BlockItem, Expr, FieldModifier, Kind, Member, Method, Place, Reserved, ResultType, Stmt,
-    Symbol, Token, Tokens, TypeName,
+    BlockItem, Class, Expr, Kind, Member, Place, Reserved, Stmt, Symbol, Token, Tokens,
 };
+use sdg_base::{BinOp, Num, UnOp};
 use sqlite_items::Items;
 use std::alloc::{AllocError, Global};
 use std::test::Fail;
 
 const PLACE: Place = Place { line: 1, column: 1 };
-
-const KV1: &str = "class Kv1 { @ Partitioned Table t = new Table ( ) ; \
-    void put ( long k , long v ) { t . put ( k , v ) ; } \
-    long get ( long k ) { return t . get ( k ) ; } \
-    long more ( long k ) { long x = t . get ( k ) ; return x + 1 ; } }";
 
 fn symbol_of(word: &str) -> Option<Symbol> {
     match word {
@@ -20,25 +17,73 @@ fn symbol_of(word: &str) -> Option<Symbol> {
         ")" => Some(Symbol::CloseParen),
         "{" => Some(Symbol::OpenBrace),
         "}" => Some(Symbol::CloseBrace),
+        "[" => Some(Symbol::OpenBracket),
+        "]" => Some(Symbol::CloseBracket),
         ";" => Some(Symbol::Semicolon),
         "," => Some(Symbol::Comma),
         "." => Some(Symbol::Dot),
         "@" => Some(Symbol::At),
         "=" => Some(Symbol::Assign),
+        "++" => Some(Symbol::PlusPlus),
+        "--" => Some(Symbol::MinusMinus),
+        "+=" => Some(Symbol::PlusAssign),
+        "-=" => Some(Symbol::MinusAssign),
+        ">>>=" => Some(Symbol::ShiftRightUnsignedAssign),
+        "?" => Some(Symbol::Question),
+        ":" => Some(Symbol::Colon),
+        _ => operator_of(word),
+    }
+}
+
+fn operator_of(word: &str) -> Option<Symbol> {
+    match word {
         "+" => Some(Symbol::Plus),
         "-" => Some(Symbol::Minus),
+        "*" => Some(Symbol::Star),
+        "/" => Some(Symbol::Slash),
+        "%" => Some(Symbol::Percent),
+        "&" => Some(Symbol::Ampersand),
+        "|" => Some(Symbol::Bar),
+        "^" => Some(Symbol::Caret),
+        "~" => Some(Symbol::Tilde),
+        "!" => Some(Symbol::Bang),
+        "&&" => Some(Symbol::AndAnd),
+        "||" => Some(Symbol::BarBar),
+        "==" => Some(Symbol::EqualEqual),
+        "!=" => Some(Symbol::NotEqual),
+        "<" => Some(Symbol::Less),
+        "<=" => Some(Symbol::LessEqual),
+        ">" => Some(Symbol::Greater),
+        ">=" => Some(Symbol::GreaterEqual),
+        "<<" => Some(Symbol::ShiftLeft),
+        ">>" => Some(Symbol::ShiftRight),
+        ">>>" => Some(Symbol::ShiftRightUnsigned),
         _ => None,
     }
 }
 
 fn reserved_of(word: &str) -> Option<Reserved> {
     match word {
+        "boolean" => Some(Reserved::Boolean),
+        "break" => Some(Reserved::Break),
         "class" => Some(Reserved::Class),
+        "continue" => Some(Reserved::Continue),
+        "else" => Some(Reserved::Else),
+        "false" => Some(Reserved::False),
+        "for" => Some(Reserved::For),
+        "if" => Some(Reserved::If),
+        "import" => Some(Reserved::Import),
         "int" => Some(Reserved::Int),
         "long" => Some(Reserved::Long),
         "new" => Some(Reserved::New),
+        "package" => Some(Reserved::Package),
+        "private" => Some(Reserved::Private),
+        "public" => Some(Reserved::Public),
         "return" => Some(Reserved::Return),
+        "static" => Some(Reserved::Static),
+        "true" => Some(Reserved::True),
         "void" => Some(Reserved::Void),
+        "while" => Some(Reserved::While),
         _ => None,
     }
 }
@@ -50,169 +95,429 @@ fn kind_of(alloc: Global, word: &str) -> Result<Kind, AllocError> {
     if let Some(reserved) = reserved_of(word) {
         return Ok(Kind::Reserved(reserved));
     }
-    match word {
-        "1L" => Ok(Kind::Number {
-            digits: 1,
+    match word.parse::<u64>() {
+        Ok(digits) => Ok(Kind::Number {
+            digits,
             decimal: true,
-            long: true,
-        }),
-        "0x1" => Ok(Kind::Number {
-            digits: 1,
-            decimal: false,
             long: false,
         }),
-        _ => match word.parse::<u64>() {
-            Ok(digits) => Ok(Kind::Number {
-                digits,
-                decimal: true,
-                long: false,
-            }),
-            Err(_) => Ok(Kind::Identifier(Items::from_slice(alloc, word.as_bytes())?)),
-        },
+        Err(_) => Ok(Kind::Identifier(Items::from_slice(alloc, word.as_bytes())?)),
     }
 }
 
-fn push(list: &mut Items<Token>, kind: Kind) -> Result<(), AllocError> {
-    list.push(Token { kind, place: PLACE })
-}
-
-/// The tokens of words with spaces between them.
-fn tokens(alloc: Global, text: &str) -> Result<Tokens, AllocError> {
-    let mut list = Items::new(alloc);
+/// Adds the tokens of words with spaces between them.
+fn add(alloc: Global, list: &mut Items<Token>, text: &str) -> Result<(), AllocError> {
     for word in text.split_whitespace() {
-        push(&mut list, kind_of(alloc, word)?)?;
+        let kind = kind_of(alloc, word)?;
+        list.push(Token { kind, place: PLACE })?;
     }
+    Ok(())
+}
+
+/// A class whose one method has this body.
+fn with_body(alloc: Global, body: &str) -> Result<Tokens, AllocError> {
+    let mut list = Items::new(alloc);
+    add(alloc, &mut list, "class A { void f ( ) {")?;
+    add(alloc, &mut list, body)?;
+    add(alloc, &mut list, "} }")?;
     Ok(Tokens { list, end: PLACE })
 }
 
-fn is_refused(alloc: Global, text: &str) -> Result<bool, AllocError> {
-    Ok(matches!(
-        parse(alloc, &tokens(alloc, text)?),
-        Err(ParseError::NoClass { place: PLACE })
-    ))
+/// A class whose one method has a body with these words, the second and the last this many times. A
+/// semicolon ends the body.
+fn nested(
+    alloc: Global,
+    before: &str,
+    opening: &str,
+    middle: &str,
+    closing: &str,
+    times: u32,
+) -> Result<Tokens, AllocError> {
+    let mut list = Items::new(alloc);
+    add(alloc, &mut list, "class A { void f ( ) {")?;
+    add(alloc, &mut list, before)?;
+    for _ in 0..times {
+        add(alloc, &mut list, opening)?;
+    }
+    add(alloc, &mut list, middle)?;
+    for _ in 0..times {
+        add(alloc, &mut list, closing)?;
+    }
+    add(alloc, &mut list, "; } }")?;
+    Ok(Tokens { list, end: PLACE })
 }
 
-fn has_name(method: &Method, name: &[u8]) -> bool {
-    method.name.as_slice() == name
+fn is_class(alloc: Global, tokens: &Tokens) -> bool {
+    parse(alloc, tokens).is_ok()
+}
+
+fn is_refused(alloc: Global, tokens: &Tokens) -> bool {
+    matches!(
+        parse(alloc, tokens),
+        Err(ParseError::NoClass { place: PLACE })
+    )
+}
+
+fn whole(alloc: Global, text: &str) -> Result<Tokens, AllocError> {
+    let mut list = Items::new(alloc);
+    add(alloc, &mut list, text)?;
+    Ok(Tokens { list, end: PLACE })
 }
 
 #[test]
-fn reads_a_class(rt: HostRuntime) -> Result<(), Fail> {
-    let class = parse(rt.alloc(), &tokens(rt.alloc(), KV1)?)
-        .ok()
-        .ok_or("the words are a class")?;
-    assert_eq!(rt; class.name.as_slice(), b"Kv1".as_slice());
-    assert!(rt; class.package.is_none());
-    match class.members.as_slice() {
-        [
-            Member::Field(field),
-            Member::Method(put),
-            Member::Method(get),
-            Member::Method(more),
-        ] => {
-            assert_eq!(rt; field.name.as_slice(), b"t".as_slice());
-            assert_eq!(rt; field.maker.as_slice(), b"Table".as_slice());
-            assert!(rt; matches!(field.modifiers.as_slice(), [FieldModifier::Partitioned]));
-            assert!(rt; has_name(put, b"put"));
-            assert!(rt; matches!(put.result, ResultType::Void));
-            assert_eq!(rt; put.params.len(), 2);
-            assert!(rt; has_name(get, b"get"));
-            assert!(rt; matches!(get.result, ResultType::Type(TypeName::Long)));
-            assert!(rt; has_name(more, b"more"));
-            match more.body.as_slice() {
-                [
-                    BlockItem::Local(local),
-                    BlockItem::Stmt(Stmt::Return(Some(value))),
-                ] => {
-                    assert_eq!(rt; local.name.as_slice(), b"x".as_slice());
-                    assert!(rt; matches!(&value.expr, Expr::Binary(_, added) if added.len() == 1));
-                }
-                _ => assert!(rt; false, "a local and a return"),
-            }
-        }
-        _ => assert!(rt; false, "a field and three methods"),
+fn reads_members(rt: HostRuntime) -> Result<(), Fail> {
+    let texts = [
+        "class A { }",
+        "public class A { }",
+        "package a ; import a . b ; import static a . b . c ; import a . * ; class A { }",
+        "class A { @ Partitioned private Table t = new Table ( ) ; }",
+        "class A { public @ Partial Matrix t = new Matrix ( ) ; }",
+        "class A { Table t = new Table ( ) ; public static private void f ( ) { } }",
+        "class A { private int f ( @ Collection long [ ] a , boolean b , Vector v ) { } }",
+        "class A { Vector f ( ) { } Table t = new Table ( ) ; long g ( ) { } }",
+    ];
+    for text in texts {
+        assert!(rt; is_class(rt.alloc(), &whole(rt.alloc(), text)?), "{text}");
     }
     Ok(())
 }
 
 #[test]
-fn reads_the_least_class(rt: HostRuntime) -> Result<(), Fail> {
-    let text = "class A { @ Partitioned Table a = new Table ( ) ; }";
-    let class = parse(rt.alloc(), &tokens(rt.alloc(), text)?)
-        .ok()
-        .ok_or("a class needs no method")?;
-    assert_eq!(rt; class.members.len(), 1);
-    Ok(())
-}
-
-#[test]
-fn refuses(rt: HostRuntime) -> Result<(), Fail> {
+fn refuses_members(rt: HostRuntime) -> Result<(), Fail> {
     let texts = [
         "",
         "class",
-        "class A { }",
-        "class A { @ Partitioned Table t = new Table ( ) ;",
-        "class A { @ Partitioned Table t = new Table ( ) ; } ;",
-        "class A { @ Partitioned Table t = new Table ( ) } ",
-        "class A { @ Partial Table t = new Table ( ) ; }",
-        "class A { @ Partitioned Matrix t = new Table ( ) ; }",
-        "class A { @ Partitioned Table t = new Table ( ) ; void p ( ) { t . put ( 1 , 2 ) } }",
-        "class A { @ Partitioned Table t = new Table ( ) ; void p ( ) { t . put ( 1 ) ; } }",
-        "class A { @ Partitioned Table t = new Table ( ) ; void p ( ) { u . put ( 1 , 2 ) ; } }",
-        "class A { @ Partitioned Table t = new Table ( ) ; void p ( ) { t . put ( 1 , ) ; } }",
-        "class A { @ Partitioned Table t = new Table ( ) ; void p ( ) { t . put ( 1 , 2 + ) ; } }",
-        "class A { @ Partitioned Table t = new Table ( ) ; void p ( ) { t . put ( 1 , 2 - 3 ) ; } }",
-        "class A { @ Partitioned Table t = new Table ( ) ; void p ( ) { t . put ( 1 , 1L ) ; } }",
-        "class A { @ Partitioned Table t = new Table ( ) ; void p ( ) { t . put ( 1 , 0x1 ) ; } }",
-        "class A { @ Partitioned Table t = new Table ( ) ; void p ( ) { t . get ( 1 ) ; } }",
-        "class A { @ Partitioned Table t = new Table ( ) ; void p ( ) { return t . get ( 1 ) ; } }",
-        "class A { @ Partitioned Table t = new Table ( ) ; long p ( ) { t . put ( 1 , 2 ) ; } }",
-        "class A { @ Partitioned Table t = new Table ( ) ; long p ( ) { return u . get ( 1 ) ; } }",
-        "class A { @ Partitioned Table t = new Table ( ) ; long p ( ) { return t . get ( ) ; } }",
-        "class A { @ Partitioned Table t = new Table ( ) ; long p ( int k ) { return t . get ( k ) ; } }",
-        "class A { @ Partitioned Table t = new Table ( ) ; long p ( long k , ) { return t . get ( k ) ; } }",
-        "class A { @ Partitioned Table t = new Table ( ) ; long p ( ) { long x = t . get ( 1 ) ; } }",
-        "class A { @ Partitioned Table t = new Table ( ) ; long p ( ) { long x = 1 ; return x ; } }",
+        "class A {",
+        "class A { } }",
+        "class A { } class B { }",
+        "class A { int x ; }",
+        "class A { int x = new Table ( ) ; }",
+        "class A { Table t ; }",
+        "class A { static Table t = new Table ( ) ; }",
+        "class A { @ Global Table t = new Table ( ) ; }",
+        "class A { @ Partial void f ( ) { } }",
+        "class A { void f ( int ) { } }",
+        "class A { void f ( int a , ) { } }",
+        "class A { void f ( @ Partial int a ) { } }",
+        "class A { void [ ] f ( ) { } }",
+        "package a . * ; class A { }",
+        "import a . * . b ; class A { }",
+        "import a ; package b ; class A { }",
     ];
     for text in texts {
-        assert!(rt; is_refused(rt.alloc(), text)?, "{text}");
+        assert!(rt; is_refused(rt.alloc(), &whole(rt.alloc(), text)?), "{text}");
     }
     Ok(())
 }
 
-/// A class whose method puts a sum of this many ones.
-fn with_sum(alloc: Global, count: u32) -> Result<Tokens, AllocError> {
-    let start = "class A { @ Partitioned Table t = new Table ( ) ; void p ( ) { t . put ( 1 , 1";
-    let mut all = tokens(alloc, start)?;
-    for _ in 1..count {
-        push(&mut all.list, kind_of(alloc, "+")?)?;
-        push(&mut all.list, kind_of(alloc, "1")?)?;
+#[test]
+fn reads_statements(rt: HostRuntime) -> Result<(), Fail> {
+    let bodies = [
+        "",
+        "; { } { ; { } }",
+        "int i ; long j = 1 ; boolean b = true ; Vector v = new Vector ( 3 ) ;",
+        "i = 1 ; i += 2 ; i >>>= 3 ; i ++ ; i -- ; ++ i ; -- i ;",
+        "f ( ) ; t . put ( 1 , 2 ) ; a [ 0 ] . set ( 1 , 2 ) ;",
+        "if ( a ) b ( ) ; if ( a ) { } else ; if ( a ) ; else if ( b ) ; else ;",
+        "while ( true ) break ; while ( a < b ) { continue ; }",
+        "for ( ; ; ) ; for ( int i = 0 ; i < 9 ; i ++ ) { }",
+        "for ( i = 0 , f ( ) ; i < 9 ; ++ i , g ( ) , j -= 1 ) ;",
+        "return ; return 1 ; return a [ 0 ] + b . length ;",
+        "@ Partial long x = @ Global t . get ( 1 ) ; y = merge ( @ Global x ) ;",
+        "@ Global t . add ( 1 , 2 ) ; return @ Global x ;",
+    ];
+    for body in bodies {
+        assert!(rt;
+            is_class(rt.alloc(), &with_body(rt.alloc(), body)?),
+            "{body}"
+        );
     }
-    let Tokens { list: end, end: _ } = tokens(alloc, ") ; } }")?;
-    all.list.append(end)?;
-    Ok(all)
-}
-
-/// A class with this many methods.
-fn with_methods(alloc: Global, count: u32) -> Result<Tokens, AllocError> {
-    let mut all = tokens(alloc, "class A { @ Partitioned Table t = new Table ( ) ;")?;
-    for _ in 0..count {
-        let Tokens {
-            list: method,
-            end: _,
-        } = tokens(alloc, "long p ( long k ) { return t . get ( k ) ; }")?;
-        all.list.append(method)?;
-    }
-    push(&mut all.list, Kind::Symbol(Symbol::CloseBrace))?;
-    Ok(all)
+    Ok(())
 }
 
 #[test]
-fn reads_large_classes(rt: HostRuntime) -> Result<(), Fail> {
-    assert!(rt; parse(rt.alloc(), &with_sum(rt.alloc(), 500_000)?).is_ok());
-    let class = parse(rt.alloc(), &with_methods(rt.alloc(), 50_000)?)
+fn refuses_statements(rt: HostRuntime) -> Result<(), Fail> {
+    let bodies = [
+        "{",
+        "else ;",
+        "if ( a ) else ;",
+        "if a ;",
+        "while ( ) ;",
+        "int ;",
+        "int i , j ;",
+        "int i = ;",
+        "i ;",
+        "1 ;",
+        "i + 1 ;",
+        "( f ( ) ) ;",
+        "i ++ ++ ;",
+        "x [ 0 ] = 1 ;",
+        "x . y = 1 ;",
+        "for ( int i = 0 , j = 1 ; ; ) ;",
+        "for ( ; ) ;",
+        "for ( ; ; i ++ , ) ;",
+        "for ( ; ; int i ) ;",
+        "break",
+        "return a b ;",
+        "@ Partial x = 1 ;",
+        "@ Global x = 1 ;",
+        "x = @ Partial y ;",
+        "x = 1 + @ Global y ;",
+        "f ( a , ) ;",
+        "return a = b ;",
+        "return x ++ + 1 ;",
+        "return a ? b ;",
+        "return ( int ) ;",
+    ];
+    for body in bodies {
+        assert!(rt;
+            is_refused(rt.alloc(), &with_body(rt.alloc(), body)?),
+            "{body}"
+        );
+    }
+    Ok(())
+}
+
+fn operator_text(op: BinOp) -> &'static str {
+    match op {
+        BinOp::Mul => "*",
+        BinOp::Div => "/",
+        BinOp::Rem => "%",
+        BinOp::Add => "+",
+        BinOp::Sub => "-",
+        BinOp::Shl => "<<",
+        BinOp::Shr => ">>",
+        BinOp::UShr => ">>>",
+        BinOp::Lt => "<",
+        BinOp::Le => "<=",
+        BinOp::Gt => ">",
+        BinOp::Ge => ">=",
+        BinOp::Eq => "==",
+        BinOp::Ne => "!=",
+        BinOp::And => "&",
+        BinOp::Xor => "^",
+        BinOp::Or => "|",
+        BinOp::AndAlso => "&&",
+        BinOp::OrElse => "||",
+    }
+}
+
+fn unary_text(op: UnOp) -> &'static str {
+    match op {
+        UnOp::Plus => "+",
+        UnOp::Minus => "-",
+        UnOp::Complement => "~",
+        UnOp::Not => "!",
+    }
+}
+
+fn put(out: &mut Items<u8>, bytes: &[u8]) -> Result<(), AllocError> {
+    for byte in bytes {
+        out.push(*byte)?;
+    }
+    Ok(())
+}
+
+/// A class whose one method returns this expression.
+fn returning(alloc: Global, expr: &str) -> Result<Tokens, AllocError> {
+    let mut list = Items::new(alloc);
+    add(alloc, &mut list, "class A { int f ( ) { return")?;
+    add(alloc, &mut list, expr)?;
+    add(alloc, &mut list, "; } }")?;
+    Ok(Tokens { list, end: PLACE })
+}
+
+/// Writes an expression of names and operators, with every grouping in brackets of its own kind: a row
+/// of operators in `[ ]`, a unary operator or a cast in `{ }`, a conditional in `< >`.
+fn write(out: &mut Items<u8>, expr: &Expr) -> Result<(), AllocError> {
+    match expr {
+        Expr::Name(name) => put(out, name.as_slice()),
+        Expr::Paren(inner) => {
+            put(out, b"(")?;
+            write(out, inner.get())?;
+            put(out, b")")
+        }
+        Expr::Unary(op, operand) => {
+            put(out, b"{")?;
+            put(out, unary_text(*op).as_bytes())?;
+            write(out, operand.get())?;
+            put(out, b"}")
+        }
+        Expr::Cast(to, operand) => {
+            put(out, b"{")?;
+            put(
+                out,
+                if matches!(to, Num::Int) {
+                    b"int "
+                } else {
+                    b"long"
+                },
+            )?;
+            write(out, operand.get())?;
+            put(out, b"}")
+        }
+        Expr::Conditional(test, first, second) => {
+            put(out, b"<")?;
+            write(out, test.get())?;
+            put(out, b"?")?;
+            write(out, first.get())?;
+            put(out, b":")?;
+            write(out, second.get())?;
+            put(out, b">")
+        }
+        Expr::Binary(first, operations) => {
+            put(out, b"[")?;
+            write(out, first.get())?;
+            for operation in operations.as_slice() {
+                put(out, operator_text(operation.op).as_bytes())?;
+                write(out, &operation.right)?;
+            }
+            put(out, b"]")
+        }
+        _ => put(out, b"_"),
+    }
+}
+
+/// The first statement of the class's first member, if it is a method.
+fn first_statement(class: &Class) -> Option<&Stmt> {
+    match class.members.as_slice() {
+        [Member::Method(method), ..] => match method.body.as_slice() {
+            [BlockItem::Stmt(body), ..] => Some(body),
+            _ => None,
+        },
+        _ => None,
+    }
+}
+
+#[test]
+fn groups_operands(rt: HostRuntime) -> Result<(), Fail> {
+    let rows = [
+        ("a - b - c", "[a-b-c]"),
+        ("a * b / c % d", "[a*b/c%d]"),
+        ("a + b * c", "[a+[b*c]]"),
+        ("a * b + c", "[[a*b]+c]"),
+        ("a << b + c", "[a<<[b+c]]"),
+        ("a + b >> c", "[[a+b]>>c]"),
+        ("a < b >>> c", "[a<[b>>>c]]"),
+        ("a << b >= c", "[[a<<b]>=c]"),
+        ("a == b < c", "[a==[b<c]]"),
+        ("a > b != c", "[[a>b]!=c]"),
+        ("a & b == c", "[a&[b==c]]"),
+        ("a != b & c", "[[a!=b]&c]"),
+        ("a ^ b & c", "[a^[b&c]]"),
+        ("a & b ^ c", "[[a&b]^c]"),
+        ("a | b ^ c", "[a|[b^c]]"),
+        ("a ^ b | c", "[[a^b]|c]"),
+        ("a && b | c", "[a&&[b|c]]"),
+        ("a | b && c", "[[a|b]&&c]"),
+        ("a || b && c", "[a||[b&&c]]"),
+        ("a && b || c", "[[a&&b]||c]"),
+        ("a || b ? c || d : e || f", "<[a||b]?[c||d]:[e||f]>"),
+        ("a ? b : c ? d : e", "<a?b:<c?d:e>>"),
+        ("a ? b ? c : d : e", "<a?<b?c:d>:e>"),
+        ("- - x", "{-{-x}}"),
+        ("- a * b", "[{-a}*b]"),
+        ("a - - b", "[a-{-b}]"),
+        ("! ~ + x", "{!{~{+x}}}"),
+        ("( int ) a + b", "[{int a}+b]"),
+        ("( int ) - a", "{int {-a}}"),
+        ("( a ) - b", "[(a)-b]"),
+        ("( a + b ) * c", "[([a+b])*c]"),
+    ];
+    for (text, expected) in rows {
+        let class = parse(rt.alloc(), &returning(rt.alloc(), text)?)
+            .ok()
+            .ok_or("a class")?;
+        match first_statement(&class).ok_or("a statement")? {
+            Stmt::Return(Some(value)) => {
+                let mut out = Items::new(rt.alloc());
+                write(&mut out, &value.expr)?;
+                assert!(rt; out.as_slice() == expected.as_bytes(), "{text}");
+            }
+            _ => assert!(rt; false, "a value"),
+        }
+    }
+    Ok(())
+}
+
+#[test]
+fn an_else_belongs_to_the_innermost_if(rt: HostRuntime) -> Result<(), Fail> {
+    let body = "if ( a ) while ( b ) if ( c ) ; else ;";
+    let class = parse(rt.alloc(), &with_body(rt.alloc(), body)?)
         .ok()
-        .ok_or("a class of many methods")?;
-    assert_eq!(rt; class.members.len(), 50_001);
+        .ok_or("a class")?;
+    match first_statement(&class).ok_or("a statement")? {
+        Stmt::If(_, first, None) => match first.get() {
+            Stmt::While(_, inner) => assert!(rt; matches!(inner.get(), Stmt::If(_, _, Some(_)))),
+            _ => assert!(rt; false, "a loop"),
+        },
+        _ => assert!(rt; false, "an open `if`"),
+    }
+    Ok(())
+}
+
+/// Whether the nesting is read this many times, and not once more.
+fn is_deepest(
+    alloc: Global,
+    before: &str,
+    opening: &str,
+    middle: &str,
+    closing: &str,
+    times: u32,
+) -> Result<bool, AllocError>
+    requires { times < 1000 }
+{
+    let most = nested(alloc, before, opening, middle, closing, times)?;
+    let more = nested(alloc, before, opening, middle, closing, times + 1)?;
+    Ok(is_class(alloc, &most) && is_refused(alloc, &more))
+}
+
+#[test]
+fn nests_to_the_last_level(rt: HostRuntime) -> Result<(), Fail> {
+    let alloc = rt.alloc();
+    assert!(rt; is_deepest(alloc, "", "{", "", "}", 199)?, "blocks");
+    assert!(rt;
+        is_deepest(alloc, "", "if ( a ) ; else", ";", "", 198)?,
+        "`if`s"
+    );
+    assert!(rt;
+        is_deepest(alloc, "", "while ( a )", ";", "", 198)?,
+        "loops"
+    );
+    assert!(rt;
+        is_deepest(alloc, "return", "(", "x", ")", 197)?,
+        "parentheses"
+    );
+    assert!(rt;
+        is_deepest(alloc, "return", "-", "x", "", 197)?,
+        "unary operators"
+    );
+    assert!(rt;
+        is_deepest(alloc, "return", "( int )", "x", "", 197)?,
+        "casts"
+    );
+    assert!(rt;
+        is_deepest(alloc, "return", "x +", "x", "", 197)?,
+        "operators in a row"
+    );
+    assert!(rt;
+        is_deepest(alloc, "return", "a ? b :", "x", "", 197)?,
+        "conditionals"
+    );
+    assert!(rt;
+        is_deepest(alloc, "return", "f (", "x", ")", 197)?,
+        "arguments"
+    );
+    assert!(rt;
+        is_deepest(alloc, "return", "a [", "x", "]", 197)?,
+        "indexes"
+    );
+    Ok(())
+}
+
+#[test]
+fn reads_a_long_body(rt: HostRuntime) -> Result<(), Fail> {
+    let tokens = nested(rt.alloc(), "", "x = x + 1 ;", "", "", 50_000)?;
+    assert!(rt; is_class(rt.alloc(), &tokens));
     Ok(())
 }

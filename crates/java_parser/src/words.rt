@@ -1,9 +1,9 @@
 //! Words that a rule wants, and names.
 
 ghost use Rattle.std.specs.Prelude.{◌≡◌, map};
-ghost use Rattle.java_parser.specs.Reading.{Gives, kinds, kind_of, same_word, begins, after_word, after, name_at};
+ghost use Rattle.java_parser.specs.Words.{Gives, kinds, kind_of, same_word, begins, after_word, after, name_at};
 
-use crate::error::{ParseError, no_class};
+use crate::error::Refusal;
 use java_tree::{Kind, Reserved, Symbol, Token};
 use sdg_base::Name;
 use sqlite_items::Items;
@@ -17,8 +17,9 @@ pub(crate) enum Wanted<'a> {
     Name(&'a [u8]),
 }
 
-#[tactic(auto, unfolding(crate::specs::Reading::same_word))]
-fn is(kind: &Kind, wanted: Wanted<'_>) -> bool
+/// Whether a token is this word.
+#[tactic(auto, unfolding(crate::specs::Words::same_word))]
+pub(crate) fn is(kind: &Kind, wanted: Wanted<'_>) -> bool
     ensures { result ≡ same_word kind.now (kind_of wanted.entry) }
 {
     match wanted {
@@ -29,7 +30,7 @@ fn is(kind: &Kind, wanted: Wanted<'_>) -> bool
 }
 
 /// Whether the tokens begin with this word.
-#[tactic(auto, unfolding(crate::specs::Reading::begins))]
+#[tactic(auto, unfolding(crate::specs::Words::begins))]
 pub(crate) fn begins(tokens: &[Token], wanted: Wanted<'_>) -> bool
     ensures { result ≡ begins (kind_of wanted.entry) (kinds tokens.now) }
 {
@@ -39,21 +40,18 @@ pub(crate) fn begins(tokens: &[Token], wanted: Wanted<'_>) -> bool
     }
 }
 
-#[tactic(auto, unfolding(crate::specs::Reading::after_word))]
-fn after_word<'t>(tokens: &'t [Token], wanted: Wanted<'_>) -> Result<&'t [Token], ParseError>
+#[tactic(auto, unfolding(crate::specs::Words::after_word))]
+fn after_word<'t>(tokens: &'t [Token], wanted: Wanted<'_>) -> Result<&'t [Token], Refusal>
     ensures { Gives (λ rest. kinds rest.now) result (after_word (kind_of wanted.entry) (kinds tokens.now)) }
 {
     match tokens {
         [first, rest @ ..] if is(&first.kind, wanted) => Ok(rest),
-        _ => Err(no_class()),
+        _ => Err(Refusal::NoClass { left: tokens.len() }),
     }
 }
 
 /// The tokens after these words.
-pub(crate) fn after<'t>(
-    tokens: &'t [Token],
-    words: &[Wanted<'_>],
-) -> Result<&'t [Token], ParseError>
+pub(crate) fn after<'t>(tokens: &'t [Token], words: &[Wanted<'_>]) -> Result<&'t [Token], Refusal>
     ensures { Gives (λ rest. kinds rest.now) result (after (map kind_of words.now) (kinds tokens.now)) }
 {
     let mut rest = tokens;
@@ -64,8 +62,8 @@ pub(crate) fn after<'t>(
 }
 
 /// The name that the tokens begin with.
-#[tactic(auto, unfolding(crate::specs::Reading::name_at))]
-pub(crate) fn name(alloc: Global, tokens: &[Token]) -> Result<(Name, &[Token]), ParseError>
+#[tactic(auto, unfolding(crate::specs::Words::name_at))]
+pub(crate) fn name(alloc: Global, tokens: &[Token]) -> Result<(Name, &[Token]), Refusal>
     ensures { Gives (λ x. (x.0, kinds x.1.now)) result (name_at (kinds tokens.now)) }
 {
     match tokens {
@@ -76,6 +74,6 @@ pub(crate) fn name(alloc: Global, tokens: &[Token]) -> Result<(Name, &[Token]), 
             },
             rest @ ..,
         ] => Ok((Items::from_slice(alloc, name.as_slice())?, rest)),
-        _ => Err(no_class()),
+        _ => Err(Refusal::NoClass { left: tokens.len() }),
     }
 }

@@ -1,2 +1,5 @@
+pub mod Heights
+pub mod Levels
+pub mod Placed
 pub mod Texts
 pub mod Tokens

@@ -6,7 +6,7 @@ use Rattle.java_tree.specs.declared.tree.Expr.{Expr, fold-roll-Expr}
 use Rattle.java_tree.specs.declared.tree.Expr.TheVariants as e
 use Rattle.java_tree.specs.declared.tree.Operation.{Operation, fold-Operation, fold-roll-Operation}
 use Rattle.java_tree.specs.declared.tree.CallForm.TheOpen as layer
-use Rattle.early_forms.specs.declared.first.Atom.{Atom}
+use Rattle.early_forms.specs.declared.straight.Atom.{Atom}
 use Rattle.early_forms.specs.Trees.{atom_tree, plus}
 use Rattle.access_blocks.specs.Variables.{Variables, named}
 use Rattle.access_blocks.specs.Expressions.{Meaning, value_of, literal, operated, call_step, expr_step, operation_step, value_step}

@@ -1,5 +1,9 @@
+pub mod Keys
+pub mod Machines
 pub mod Plain
 pub mod Serial
+pub mod Bodies
+pub mod Fields
 pub mod Fits
 pub mod Scopes
 pub mod Results

@@ -1,15 +1,12 @@
 -- The variables that a sum sees.
-use Rattle.std.specs.Prelude.{ℕ, List, ◌∷◌, map, Option, Some, None}
-use Rattle.std.specs.List.{zip}
-use Rattle.sdg_base.specs.declared.val.Val.{Val}
-use Rattle.sdg_base.specs.declared.val.Val.TheVariants as val
+use Rattle.std.specs.Prelude.{ℕ, List, [], ◌∷◌, map}
 use Rattle.access_blocks.specs.Variables.{Variables}
 use Rattle.plain_java.specs.declared.scope.Local.{Local}
 
--- a local with its value, if there is one, and then the parameters with the arguments
-abbrev pub scope_of : Option Local → List (List ℕ) → List Val → Variables
-scope_of None parameters arguments = zip parameters arguments
-scope_of (Some local) parameters arguments = (local.name.now, val.Long local.value) ∷ zip parameters arguments
+-- These locals are declared one after the other.
+abbrev pub with_locals : Variables → List Local → Variables
+with_locals variables [] = variables
+with_locals variables (local ∷ locals) = with_locals ((local.name.now, local.value) ∷ variables) locals
 
-abbrev pub names_in : Variables → List (List ℕ)
+abbrev pub names_in : {A : Type 0} → List (List ℕ × A) → List (List ℕ)
 names_in variables = map (λ variable. variable.0) variables

@@ -3,7 +3,7 @@
 ghost use Rattle.std.specs.Prelude.{◌↔◌, All, IsTrue};
 ghost use Rattle.plain_java.specs.Fits.{CallFits, IsLong};
 
-use early_forms::FirstClass;
+use early_forms::StraightClass;
 use sdg_base::{Call, Calls, Val};
 
 fn is_long(value: &Val) -> bool
@@ -18,7 +18,7 @@ fn are_longs(values: &[Val]) -> bool
     values.iter().all(is_long)
 }
 
-fn call_fits(class: &FirstClass, call: &Call) -> bool
+fn call_fits(class: &StraightClass, call: &Call) -> bool
     ensures { IsTrue result ↔ CallFits class.now call.now }
 {
     match class.methods.get(usize::from(call.method)) {
@@ -31,7 +31,7 @@ fn call_fits(class: &FirstClass, call: &Call) -> bool
 
 /// Whether each call names a method by its place and has one argument of type `long` for each of its
 /// parameters.
-pub fn calls_fit(class: &FirstClass, calls: &Calls) -> bool
+pub fn calls_fit(class: &StraightClass, calls: &Calls) -> bool
     ensures { IsTrue result ↔ All (CallFits class.now) calls.now }
 {
     calls.as_slice().iter().all(|call| call_fits(class, call))

@@ -2,12 +2,17 @@
 #![tactic(auto)]
 
 mod fits;
+mod machine;
 mod run;
 mod scope;
+mod serial;
+mod site;
 mod sums;
+mod tables;
 
 pub use fits::calls_fit;
 pub use run::plain;
+pub use serial::serial_is_plain;
 
 #[cfg(test)]
 mod tests;

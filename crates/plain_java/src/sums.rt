@@ -1,9 +1,11 @@
 //! The values of atoms and of their sums.
 
-ghost use Rattle.std.specs.Prelude.{◌≡◌};
+ghost use Rattle.std.specs.Prelude.{◌≡◌, Some};
 ghost use Rattle.sdg_base.specs.Operators.{IsNumber};
+ghost use Rattle.early_forms.specs.Trees.{plain, sum_tree};
+ghost use Rattle.access_blocks.specs.Expressions.{long_of as written_long};
 ghost use Rattle.early_forms.specs.Names.{AtomIsKnown, SumIsKnown};
-ghost use Rattle.plain_java.specs.Results.{atom_value, long_value};
+ghost use Rattle.plain_java.specs.Results.{atom_value};
 ghost use Rattle.plain_java.specs.Scopes.{names_in};
 
 use crate::scope::Scope;
@@ -26,7 +28,7 @@ fn value_of(atom: &Atom, scope: &Scope) -> Val
 /// to an `int` (JLS 15.18.2), and its value is widened at last (JLS 5.2, 5.3).
 pub fn long_of(sum: &Sum, scope: &Scope) -> i64
     requires { SumIsKnown (names_in scope.now) sum.now }
-    ensures { result ≡ long_value scope.now sum.now }
+    ensures { written_long (plain (sum_tree sum.now)) scope.now ≡ Some (Val.Long result) }
 {
     let mut total = value_of(&sum.first, scope);
     for atom in sum.others.as_slice() {

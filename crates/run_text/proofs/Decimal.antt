@@ -3,7 +3,8 @@ use Rattle.std.proofs.Common.{◌≡◌, All, ℕ, zero, suc, ◌^◌, ◌<◌, 
 use Rattle.std.specs.Prelude.{◌≢◌, FitsSigned}
 use Rattle.std.specs.Result.{result_ok, OkIff}
 use Rattle.std.specs.Fmt.{decimal, signed_decimal}
-use Rattle.std.specs.Int.{w32, w64, IsInRange}
+use Rattle.std.specs.Int.{w32, w64, IsInRange, FitsUnsignedBits}
+use Rattle.std.proofs.Math.IntN.{nat_abs}
 use Rattle.std.specs.Str.{IsUtf8}
 use Rattle.std.specs.Str.Parse.{AllDigits, digits_value, ParsesSigned}
 use Rattle.std.proofs.lemmas.Str.{IsUtf8-from_ascii}
@@ -117,3 +118,23 @@ lacks c minus digit (negsuc n) fits =
 pub some_text : (n : ℤ) → FitsSigned w64 n → signed_decimal n ≢ []
 some_text (pos n) fits e = omega (arith, decimal_nonempty n (omega (arith, fits.sfits)), ap length e)
 some_text (negsuc n) fits e = cc
+
+-- ---- The numbers of a byte
+
+-- a number that isn't negative is one of the numbers that a long has
+pub no_byte : (bs : List ℕ) → ((n : ℤ) → FitsSigned w64 n → signed_decimal n ≢ bs) → (n : ℕ) → n < 256 → decimal n ≢ bs
+no_byte bs none n lt e = none (pos n) (record { sfits = omega arith }) e
+
+pub long_of_byte : (n : ℕ) → n < 256 → FitsSigned w64 (pos n)
+long_of_byte n lt = record { sfits = omega arith }
+
+byte_text : (m : ℤ) (bs : List ℕ) (n : ℕ) → FitsUnsignedBits 8 m → signed_decimal m ≡ bs → n ≡ nat_abs m → (n < 256) × (decimal n ≡ bs)
+byte_text (pos k) bs n fits text same = (grind arith, ap decimal same ∙ text)
+byte_text (negsuc k) bs n fits text same = absurd (grind arith)
+
+pub byte_from_long : {E : Type 0} (bs : List ℕ) (m z : ℤ) (r : Result ℕ E) → FitsSigned w64 m × (signed_decimal m ≡ bs) → z ≡ m → OkIff r (FitsUnsignedBits 8 z) (nat_abs z) → MatchOption (result_ok r) ((n : ℕ) → n < 256 → decimal n ≢ bs) (λ n. (n < 256) × (decimal n ≡ bs))
+byte_from_long bs m z (Ok n) long same h =
+    byte_text m bs n (subst (FitsUnsignedBits 8) same h.0) long.1 (h.1 ∙ ap nat_abs same)
+byte_from_long bs m z (Err e) long same h = λ n lt text.
+    let one : m ≡ pos n = only_number bs m (pos n) long.0 (long_of_byte n lt) long.1 text in
+    h (subst (FitsUnsignedBits 8) (sym (same ∙ one)) lt)

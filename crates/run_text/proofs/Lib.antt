@@ -6,3 +6,7 @@ pub mod Rules
 pub mod Text
 pub mod Laws
 pub mod Names
+pub mod Ports
+pub mod Events
+pub mod ScheduleText
+pub mod ScheduleLaws

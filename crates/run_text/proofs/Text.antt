@@ -36,7 +36,7 @@ next (l ∷ ls) (suc i) line more h =
 
 -- ---- The calls so far
 
-said_push : (ls : List (List ℕ)) (line : List ℕ) → said_lines (ls ++ line ∷ []) ≡ said_lines ls ++ cond (not (is_skipped line)) (line ∷ []) []
+pub said_push : (ls : List (List ℕ)) (line : List ℕ) → said_lines (ls ++ line ∷ []) ≡ said_lines ls ++ cond (not (is_skipped line)) (line ∷ []) []
 said_push ls line = filter-append (λ l. not (is_skipped l)) ls (line ∷ [])
 
 pub skip_line : (es : List Entrance) (ls : List (List ℕ)) (line : List ℕ) (calls : List Call) → is_skipped line ≡ true → AreCalls es ls calls → AreCalls es (ls ++ line ∷ []) calls
@@ -96,7 +96,7 @@ break_in_front es ls n i rule lt b =
 abbrev one_line : List ℕ → Option (List ℕ)
 one_line l = Some l
 
-same_line : (a b : List ℕ) → one_line a ≡ one_line b → a ≡ b
+pub same_line : (a b : List ℕ) → one_line a ≡ one_line b → a ≡ b
 same_line a b h = cc
 
 pub refused : (es : List Entrance) (ls : List (List ℕ)) (i : ℕ) (line : List ℕ) (calls : List Call) (error : LineError) → AreCalls es (take i ls) calls → slice_get ls i ≡ Some line → is_skipped line ≡ false → IsLeastBreak es (length calls) line error → IsRefusal es ls (error_at (i + 1) error)

@@ -5,3 +5,5 @@ pub mod Values
 pub mod Calls
 pub mod Reading
 pub mod Index
+pub mod Schedules
+pub mod ScheduleReading

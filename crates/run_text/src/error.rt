@@ -3,6 +3,7 @@
 ghost use Rattle.std.specs.Prelude.{◌≡◌};
 ghost use Rattle.run_text.specs.Calls.{number_of};
 ghost use Rattle.run_text.specs.Reading.{error_at};
+ghost use Rattle.run_text.specs.Schedules.{rule_number};
 ghost use Rattle.run_text.specs.declared.error.LineError.TheVariants as line;
 ghost use Rattle.run_text.specs.declared.error.TextError.TheVariants as text;
 
@@ -34,6 +35,39 @@ impl CallRule {
             CallRule::Count => 3,
             CallRule::Value => 4,
             CallRule::Limit => 5,
+        }
+    }
+}
+
+/// A rule of a line of a schedule. The rules are judged in this order.
+#[derive(Clone, Copy, Debug, PartialEq, Eq)]
+pub enum ScheduleRule {
+    /// The bytes are printable ASCII, and single spaces stand between words alone.
+    Plain,
+    /// The first line is a header with its numbers in range, and no later line is a header.
+    Header,
+    /// The first word is a known event, and the event has as many words.
+    Event,
+    /// Each port is one that the class and the header can have where it stands.
+    Port,
+    /// A number in range stands where one must stand.
+    Number,
+    /// There are at most 1,000,000 events.
+    Limit,
+}
+
+impl ScheduleRule {
+    /// Its number in a report. Rule 6 is of events that are not built yet.
+    pub fn number(self) -> u8
+        ensures { result ≡ rule_number self }
+    {
+        match self {
+            ScheduleRule::Plain => 1,
+            ScheduleRule::Header => 2,
+            ScheduleRule::Event => 3,
+            ScheduleRule::Port => 4,
+            ScheduleRule::Number => 5,
+            ScheduleRule::Limit => 7,
         }
     }
 }

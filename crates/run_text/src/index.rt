@@ -1,10 +1,11 @@
-//! The entry methods by their names.
+//! The entry methods and the fields by their names.
 
 ghost use Rattle.std.specs.Prelude.{◌≡◌, ◌≢◌, ◌^◌, ◌≤◌, length, All, IfOk, MatchOption};
 ghost use Rattle.run_text.specs.Calls.{IsMethod};
-ghost use Rattle.run_text.specs.Index.{index_at, IsIndex};
+ghost use Rattle.run_text.specs.Index.{index_at, IsIndex, IsFieldIndex};
 
 use crate::entrance::Entrance;
+use sdg_base::Name;
 use std::alloc::{AllocError, Global};
 use std::collections::BTreeMap;
 
@@ -39,8 +40,26 @@ pub(crate) fn method_of<'a>(
     Some((number, &entrances[number as usize]))
 }
 
+/// The number of each name's first field.
+pub(crate) fn field_index_of(
+    alloc: Global,
+    fields: &[Name],
+) -> Result<BTreeMap<&[u8], u16>, AllocError>
+    requires { length fields.now ≤ 2 ^ 16 }
+    ensures { IfOk result (IsFieldIndex fields.now) }
+{
+    let mut index = BTreeMap::new(alloc);
+    for (number, field) in fields.iter().enumerate() {
+        let name = field.as_slice();
+        if !index.contains_key(name) {
+            index.insert(name, number as u16)?;
+        }
+    }
+    Ok(index)
+}
+
 /// What an index has for a name.
-fn number_in(index: &BTreeMap<&[u8], u16>, name: &[u8]) -> Option<u16>
+pub(crate) fn number_in(index: &BTreeMap<&[u8], u16>, name: &[u8]) -> Option<u16>
     ensures { result ≡ index_at index.now name.now }
 {
     index.get(name).copied()

@@ -1,9 +1,9 @@
 //! Numbers in their one decimal form.
 
-ghost use Rattle.std.specs.Prelude.{◌≡◌, ◌≢◌, ℤ, MatchOption, FitsSigned};
+ghost use Rattle.std.specs.Prelude.{◌≡◌, ◌≢◌, ◌<◌, ◌≤◌, ◌↔◌, ℕ, ℤ, drop, decimal, All, IsTrue, MatchOption, FitsSigned};
 ghost use Rattle.std.specs.Fmt.{signed_decimal};
 ghost use Rattle.std.specs.Int.{w32, w64};
-ghost use Rattle.run_text.specs.Numbers.{begins_above_zero, begins_as_number};
+ghost use Rattle.run_text.specs.Numbers.{begins_above_zero, begins_as_number, IsNumber};
 
 /// The `int` that the bytes write, where they write one.
 pub(crate) fn int_of(bytes: &[u8]) -> Option<i32>
@@ -46,5 +46,43 @@ fn has_first_digit(bytes: &[u8]) -> bool
     match bytes {
         [first, ..] => (b'1'..=b'9').contains(first),
         [] => false,
+    }
+}
+
+/// The number from `low` to `high` that the bytes write, where they write one.
+pub(crate) fn number_within(bytes: &[u8], low: u8, high: u8) -> Option<u8>
+    ensures { MatchOption result ((n : ℕ) → low ≤ n → n ≤ high → decimal n ≢ bytes.now) (λ n. (low ≤ n) × (n ≤ high) × (decimal n ≡ bytes.now)) }
+{
+    let number = byte_of(bytes)?;
+    if number < low || high < number {
+        return None;
+    }
+    Some(number)
+}
+
+/// The number below 256 that the bytes write, where they write one.
+fn byte_of(bytes: &[u8]) -> Option<u8>
+    ensures { MatchOption result ((n : ℕ) → n < 256 → decimal n ≢ bytes.now) (λ n. (n < 256) × (decimal n ≡ bytes.now)) }
+{
+    match long_of(bytes) {
+        Some(n) => u8::try_from(n).ok(),
+        None => None,
+    }
+}
+
+/// Whether the bytes write a number of any size.
+pub(crate) fn is_number(bytes: &[u8]) -> bool
+    ensures { IsTrue result ↔ IsNumber bytes.now }
+{
+    is_one_form(bytes) && has_digits(bytes)
+}
+
+/// Whether the bytes behind the first are digits.
+fn has_digits(bytes: &[u8]) -> bool
+    ensures { IsTrue result ↔ All (λ b. (48 ≤ b) × (b ≤ 57)) (drop 1 bytes.now) }
+{
+    match bytes {
+        [_, rest @ ..] => rest.iter().all(|b| b.is_ascii_digit()),
+        [] => true,
     }
 }

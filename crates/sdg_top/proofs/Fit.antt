@@ -1,34 +1,27 @@
 -- Calls that fit the methods as a caller sees them fit the class.
-use Rattle.std.proofs.Common.{◌≡◌, ℕ, zero, suc, ◌^◌, List, [], ◌∷◌, map, take, length, get_or, Option, Some, None, All, refl, ap, sym, subst, ◌∙◌}
+use Rattle.std.proofs.Common.{◌≡◌, ℕ, suc, List, [], ◌∷◌, map, length, Option, Some, None, All, refl, ap, sym, subst, ◌∙◌}
 use Rattle.std.specs.Prelude.{slice_get}
-use Rattle.std.specs.List.{AllZip}
+use Rattle.std.specs.List.{AllZip, AllByRecursion}
 use Rattle.std.specs.Option.{option_map}
-use Rattle.std.proofs.lemmas.List.Elements.{All-nil, All-cons}
+use Rattle.std.proofs.lemmas.List.Elements.{All-nil, All-cons, recursion_from_All}
 use Rattle.std.proofs.lemmas.Option.{slice_get-map}
 use Rattle.sdg_base.specs.declared.val.Val.{Val}
 use Rattle.sdg_base.specs.declared.val.Val.TheVariants as val
 use Rattle.sdg_base.specs.declared.call.Call.{Call}
-use Rattle.early_forms.specs.declared.first.FirstMethod.{FirstMethod}
-use Rattle.early_forms.specs.declared.first.FirstClass.{FirstClass}
+use Rattle.early_forms.specs.declared.straight.StraightMethod.{StraightMethod}
+use Rattle.early_forms.specs.declared.straight.StraightClass.{StraightClass}
 use Rattle.early_forms.specs.Trees.{class_tree}
-use Rattle.plain_java.specs.Fits.{IsLong, CallFits}
+use Rattle.early_cutter.specs.Agrees.{IsLong, CallFits}
 use Rattle.run_text.specs.declared.entrance.ValueType.TheVariants.{Long}
 use Rattle.run_text.specs.declared.entrance.Entrance.{Entrance}
 use Rattle.run_text.specs.Values.{Fits}
 use Rattle.run_text.specs.Calls.{CallFits as FitsEntrance}
 use Rattle.sdg_top.specs.Accepted.{entrances_of}
-use Rattle.sdg_top.specs.Entrances.{first_entrance}
+use Rattle.sdg_top.specs.Entrances.{straight_entrance}
 use Rattle.sdg_top.proofs.Members.{entrances-class_tree}
 
--- an item of a front is one of the whole
-within_front : {A : Type 0} (n : ℕ) (xs : List A) (i : ℕ) (x : A) → slice_get (take n xs) i ≡ Some x → slice_get xs i ≡ Some x
-within_front zero xs i x e = absurd cc
-within_front (suc n) [] i x e = absurd cc
-within_front (suc n) (y ∷ ys) zero x e = e
-within_front (suc n) (y ∷ ys) (suc i) x e = within_front n ys i x e
-
 -- where a mapped list has an item, the list has one
-mapped_at : (o : Option FirstMethod) (e : Entrance) → option_map first_entrance o ≡ Some e → (m : FirstMethod) × (o ≡ Some m) × (first_entrance m ≡ e)
+mapped_at : (o : Option StraightMethod) (e : Entrance) → option_map straight_entrance o ≡ Some e → (m : StraightMethod) × (o ≡ Some m) × (straight_entrance m ≡ e)
 mapped_at None e is = absurd cc
 mapped_at (Some m) e is = (m, refl, cc)
 
@@ -51,10 +44,10 @@ all_longs [] (v ∷ vs) fits = absurd fits
 all_longs (name ∷ names) [] fits = absurd fits
 all_longs (name ∷ names) (v ∷ vs) fits = All-cons IsLong v vs (one_long v fits.0) (all_longs names vs fits.1)
 
-fits_class : (c : FirstClass) (call : Call) → FitsEntrance (entrances_of (class_tree c)) call → CallFits c call
+fits_class : (c : StraightClass) (call : Call) → FitsEntrance (entrances_of (class_tree c)) call → CallFits c call
 fits_class c call fits =
-    let at : slice_get (take (2 ^ 16) (map first_entrance c.methods)) call.method ≡ Some fits.entrance = subst (λ (es : List Entrance). slice_get es call.method ≡ Some fits.entrance) (entrances-class_tree c) fits.method in
-    let found = mapped_at (slice_get c.methods call.method) fits.entrance (sym (slice_get-map first_entrance c.methods call.method) ∙ within_front (2 ^ 16) (map first_entrance c.methods) call.method fits.entrance at) in
+    let at : slice_get (map straight_entrance c.methods) call.method ≡ Some fits.entrance = subst (λ (es : List Entrance). slice_get es call.method ≡ Some fits.entrance) (entrances-class_tree c) fits.method in
+    let found = mapped_at (slice_get c.methods call.method) fits.entrance (sym (slice_get-map straight_entrance c.methods call.method) ∙ at) in
     let args : AllZip Fits (map (λ _. Long) found.0.parameters) call.args = subst (λ (e : Entrance). AllZip Fits e.parameters call.args) (sym found.2) fits.args in
     record {
       method = found.0;
@@ -63,7 +56,10 @@ fits_class c call fits =
       longs = all_longs found.0.parameters call.args args;
     }
 
-pub all_fit : (c : FirstClass) (es : List Entrance) (calls : List Call) → es ≡ entrances_of (class_tree c) → All (FitsEntrance es) calls → All (CallFits c) calls
-all_fit c es calls e fits k d lt =
-    let call : Call = get_or calls k d in
-    fits_class c call (subst (λ (all : List Entrance). FitsEntrance all call) e (fits k d lt))
+all_by_recursion : (c : StraightClass) (es : List Entrance) (calls : List Call) → es ≡ entrances_of (class_tree c) → AllByRecursion (FitsEntrance es) calls → AllByRecursion (CallFits c) calls
+all_by_recursion c es [] e fits = tt
+all_by_recursion c es (call ∷ calls) e fits = (fits_class c call (subst (λ (all : List Entrance). FitsEntrance all call) e fits.0), all_by_recursion c es calls e fits.1)
+
+-- Calls that fit the methods as a caller sees them fit the class.
+pub all_fit : (c : StraightClass) (es : List Entrance) (calls : List Call) → es ≡ entrances_of (class_tree c) → All (FitsEntrance es) calls → AllByRecursion (CallFits c) calls
+all_fit c es calls e fits = all_by_recursion c es calls e (recursion_from_All (FitsEntrance es) calls fits)

@@ -1,8 +1,6 @@
--- Which texts are accepted, and the report that they are due.
-use Rattle.std.specs.Prelude.{◌≡◌, ℕ, ◌*◌, ◌^◌, List, [], length, take, map}
-use Rattle.std.specs.Str.Lines.{lines}
+-- Which texts are accepted, why a class is refused, and the report that an accepted class's calls are due.
+use Rattle.std.specs.Prelude.{◌≡◌, ℕ, ◌≤◌, ◌-◌, ◌^◌, min, List, [], map, codes}
 use Rattle.sdg_base.specs.declared.call.Call.{Call}
-use Rattle.sdg_base.specs.declared.val.Outcome.{Outcome}
 use Rattle.java_tree.specs.declared.token.Place.{Place}
 use Rattle.java_tree.specs.declared.token.Token.{Token}
 use Rattle.java_tree.specs.declared.tree.Class.{Class}
@@ -10,25 +8,57 @@ use Rattle.java_tree.specs.declared.tree.Method.{Method}
 use Rattle.java_tree.specs.declared.tree.TypeName.{TypeName}
 use Rattle.java_tree.specs.declared.tree.TypeName.TheVariants as type_name
 use Rattle.java_tree.specs.Tokens.{tokens_of}
+use Rattle.java_tree.specs.Placed.{IsWellPlaced}
+use Rattle.java_tree.specs.Heights.{height, max_levels}
+use Rattle.java_lexer.specs.declared.lexer.LexError.TheVariants.{BadByte, BadNumber, OpenComment}
 use Rattle.java_lexer.specs.Places.{first_place}
-use Rattle.java_lexer.specs.Spelling.{Spells}
+use Rattle.java_lexer.specs.Spelling.{Spells, Refuses}
+use Rattle.early_forms.specs.declared.straight.StraightClass.{StraightClass}
+use Rattle.early_forms.specs.Trees.{class_tree}
+use Rattle.early_forms.specs.Forms.{IsStraightForm}
 use Rattle.access_blocks.specs.Members.{fields, methods}
-use Rattle.access_blocks.specs.Source.{Explains, numbered}
-use Rattle.plain_java.specs.Plain.{ArePlain}
-use Rattle.plain_java.specs.Serial.{serial}
-use Rattle.placement.specs.declared.Header.{Header}
+use Rattle.access_blocks.specs.Serial.{IsSerial}
+use Rattle.placement.specs.declared.event.Header.{Header}
+use Rattle.placement.specs.declared.event.Schedule.{Schedule}
 use Rattle.run_text.specs.declared.entrance.ValueType.{ValueType}
 use Rattle.run_text.specs.declared.entrance.ValueType.TheVariants as value_type
 use Rattle.run_text.specs.declared.entrance.Entrance.{Entrance}
-use Rattle.run_text.specs.Calls.{AreCalls}
+use Rattle.early_cutter.specs.Runs.{setup_of, ArePlainResults, ArePlainInOrder}
+use Rattle.cluster.specs.History.{steps_of}
+use Rattle.cluster.specs.World.{first_world, words_of, world_of, results_of, kept}
+use Rattle.agreement.specs.Results.{RunAgrees}
 use Rattle.sdg_top.specs.Report.{report_text}
 
--- the text spells the tokens of the class
-pub record IsClassText (text : List ℕ) (class : Class) : Type 0 where
+abbrev pub Text : Type 0
+Text = List ℕ
+
+-- ---- classes
+
+-- the text spells the tokens of the class, whose parts stand where the grammar has them, within the levels of nesting
+pub record IsClassText (text : Text) (class : Class) : Type 0 where
   pub tokens : List Token
   pub end : Place
   pub spelled : Spells first_place tokens end text
   pub are_tokens : tokens_of class ≡ map (λ t. t.kind) tokens
+  pub placed : IsWellPlaced class
+  pub levels : height class ≤ max_levels
+
+-- each class that has this text is this one
+abbrev pub IsOnlyClass : Text → Class → Type 0
+IsOnlyClass text class = (other : Class) → IsClassText text other → other ≡ class
+
+-- Why a class text is refused: the first phase that finds it wrong, and where. Syntax and form name the first place of a text.
+pub data IsRefused (text : Text) : Text → Place → Type 0 where
+  -- a byte with which nothing begins
+  AtByte : (at : Place) → Refuses first_place text (BadByte at) → IsRefused text (codes "byte") at
+  -- a digit whose run is no number
+  AtNumber : (at : Place) → Refuses first_place text (BadNumber at) → IsRefused text (codes "number") at
+  -- a comment without end
+  AtComment : (at : Place) → Refuses first_place text (OpenComment at) → IsRefused text (codes "comment") at
+  -- tokens that are no class
+  NoSyntax : (tokens : List Token) (end : Place) → Spells first_place tokens end text → ((class : Class) → IsClassText text class → ⊥) → IsRefused text (codes "syntax") first_place
+  -- a class, and the only one with this text, that is not of the form that runs
+  NoForm : (class : Class) → IsClassText text class → IsOnlyClass text class → (IsStraightForm class → ⊥) → IsRefused text (codes "form") first_place
 
 -- ---- the methods as a caller sees them
 
@@ -41,9 +71,9 @@ value_type_of (type_name.Named name) = value_type.Vector
 abbrev pub entrance_of : Method → Entrance
 entrance_of m = record { name = m.name; parameters = map (λ p. value_type_of p.type_name) m.params }
 
--- The methods by number. A class file within its limit has fewer than 65,536.
+-- The methods by number. A class of the form has at most 65,536.
 abbrev pub entrances_of : Class → List Entrance
-entrances_of class = take (2 ^ 16) (map entrance_of (methods class))
+entrances_of class = map entrance_of (methods class)
 
 -- ---- the report
 
@@ -51,17 +81,20 @@ entrances_of class = take (2 ^ 16) (map entrance_of (methods class))
 abbrev pub plain_header : Header
 plain_header = record { nodes = 1; slots = 1; stores = 1; width = 1 }
 
--- The report of calls of a class: the results of plain Java, and a history of the annotated source that explains them. Each
--- call keeps two items, the call itself and the work that it sends to the table's cell.
-pub record IsReport (class : Class) (calls : List Call) (report : List ℕ) : Type 0 where
-  pub outcomes : List Outcome
-  pub one_each : length outcomes ≡ length calls
-  pub plain : ArePlain class calls outcomes
-  pub explained : Explains class calls (serial calls) (numbered 1 outcomes)
-  pub written : report ≡ report_text plain_header (fields class) [] [] (numbered 1 outcomes) (serial calls) [] (2 * length calls)
+abbrev pub plain_schedule : Schedule
+plain_schedule = record { header = plain_header; events = [] }
 
--- the report of the calls that a text writes
-pub record Reports (class : Class) (calls_text report : List ℕ) : Type 0 where
-  pub calls : List Call
-  pub are_calls : AreCalls (entrances_of class) (lines calls_text) calls
-  pub of_calls : IsReport class calls report
+-- The report of calls of a class under a schedule: it is of the world that the schedule fixes, with what is kept as far as 64 bits can say it. There each call has one result; the history is
+-- legal for the annotated source, whose outcomes the results are; and where calls don't interleave they are those of plain Java.
+pub record IsReport (class : StraightClass) (calls : List Call) (schedule : Schedule) (report : Text) : Type 0 where
+  pub agrees : RunAgrees (class_tree class) (setup_of class calls schedule.header) (world_of (setup_of class calls schedule.header) schedule.events)
+  pub plain : IsSerial (steps_of (world_of (setup_of class calls schedule.header) schedule.events).hist)
+      → ArePlainResults (class_tree class) calls (results_of (setup_of class calls schedule.header) (world_of (setup_of class calls schedule.header) schedule.events))
+  pub written :
+      let s = setup_of class calls schedule.header in
+      let w = world_of s schedule.events in
+      report ≡ report_text schedule.header (fields (class_tree class)) (words_of s first_world schedule.events) [] (results_of s w) (steps_of w.hist) [] (min (kept s w) (2 ^ 64 - 1))
+
+-- Without events calls run one after the other, and have the results of plain Java, in their order.
+abbrev pub IsPlainReport : StraightClass → List Call → Type 0
+IsPlainReport class calls = ArePlainInOrder (class_tree class) calls (results_of (setup_of class calls plain_header) (world_of (setup_of class calls plain_header) []))

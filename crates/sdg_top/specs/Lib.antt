@@ -1,3 +1,4 @@
+pub mod Acceptance
 pub mod Accepted
 pub mod Answers
 pub mod Codes

@@ -5,7 +5,8 @@ use Rattle.sdg_top.specs.declared.status.Status.TheVariants as status
 use Rattle.sdg_top.specs.declared.run.Read.{Read}
 use Rattle.sdg_top.specs.declared.run.Read.TheVariants.{Whole, Not}
 use Rattle.sdg_top.specs.Answers.{unreadable_line, too_long_line}
-use Rattle.sdg_top.specs.Due.{Text, Told, WasRead, IsLong}
+use Rattle.sdg_top.specs.Accepted.{Text}
+use Rattle.sdg_top.specs.Due.{Told, WasRead, IsLong}
 
 abbrev pub ReadGives : Text → ℕ → Told → Read → Type 0
 ReadGives name limit files (Whole text) = (files.after ≡ files.before) × WasRead (files.content name) limit text

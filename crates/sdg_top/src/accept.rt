@@ -1,47 +1,104 @@
-//! The class that a text writes, and its methods as a caller sees them.
+//! The class that a text writes, or why it is refused, and its methods as a caller sees them.
 
-ghost use Rattle.std.specs.Prelude.{◌≡◌, ◌≤◌, length, IfOk, IfSome, IfNone};
-ghost use Rattle.java_tree.specs.declared.tree.Class.{Class};
+ghost use Rattle.std.specs.Prelude.{◌≡◌, ◌≤◌, length, map, IfOk};
+ghost use Rattle.early_forms.specs.declared.straight.StraightClass.{StraightClass as ClassOf};
 ghost use Rattle.early_forms.specs.Trees.{class_tree};
 ghost use Rattle.early_forms.specs.Names.{IsProper};
-ghost use Rattle.early_forms.specs.Forms.{IsFirstForm};
 ghost use Rattle.sdg_top.specs.Accepted.{IsClassText, entrances_of};
-ghost use Rattle.sdg_top.specs.Due.{IsOnlyClass};
-ghost use Rattle.sdg_top.specs.Entrances.{first_entrance};
+ghost use Rattle.sdg_top.specs.Acceptance.{phase_text, Judges, IsTaken, RefusesAt, JudgesTree, JudgesTokens};
+ghost use Rattle.sdg_top.specs.Entrances.{straight_entrance};
 
-use early_forms::{FirstClass, FirstMethod, first_form};
-use java_lexer::{PlainError, lex_plain};
+use early_forms::{StraightClass, StraightMethod, straight_form};
+use java_lexer::{LexError, lex};
 use java_parser::{ParseError, parse};
+use java_tree::{Class, Place, Tokens};
 use run_text::{Entrance, ValueType};
 use sqlite_items::Items;
 use std::alloc::{AllocError, Global};
 
-/// The most methods that a caller can name, by numbers of 16 bits.
-const MOST_METHODS: usize = 65536;
+/// The phases in which a class is judged, in their order.
+#[derive(Clone, Copy, Debug, PartialEq, Eq)]
+pub(crate) enum Phase {
+    Byte,
+    Number,
+    Comment,
+    Syntax,
+    Form,
+}
 
-/// The parts of the class that a text writes, where it is of the form that runs.
-pub(crate) fn class_of(alloc: Global, text: &[u8]) -> Result<Option<FirstClass>, AllocError>
-    requires { length text.now ≤ 1048576 }
-    ensures found { IfOk result (λ o. IfSome o (λ c. IsClassText text.now (class_tree c) × IsProper c)) }
-    ensures refused { IfOk result (λ o. IfNone o ((class : Class) → IsClassText text.now class → IsFirstForm class → ⊥)) }
-    ensures only { IfOk result (λ o. IfSome o (λ c. IsOnlyClass text.now (class_tree c))) }
+impl Phase {
+    /// Its name in a refusal.
+    pub(crate) fn text(self) -> &'static str
+        ensures { result.now ≡ phase_text self }
+    {
+        match self {
+            Phase::Byte => "byte",
+            Phase::Number => "number",
+            Phase::Comment => "comment",
+            Phase::Syntax => "syntax",
+            Phase::Form => "form",
+        }
+    }
+}
+
+/// A class of the form that runs, or the phase and the place of a refusal.
+#[derive(Drop)]
+pub(crate) enum Judgement {
+    Takes(StraightClass),
+    Refuses(Phase, Place),
+}
+
+/// Where the phases stand that name no place of their own.
+const FIRST: Place = Place { line: 1, column: 1 };
+
+/// Judges a tree that has been read, which is the only one with its tokens.
+fn judge_tree(alloc: Global, tree: &Class) -> Result<Judgement, AllocError>
+    ensures { IfOk result (JudgesTree tree.now) }
 {
-    let tokens = match lex_plain(alloc, text) {
-        Ok(tokens) => tokens,
-        Err(PlainError::NotPlain) => return Ok(None),
-        Err(PlainError::Memory) => return Err(AllocError),
-    };
-    let tree = match parse(alloc, &tokens) {
-        Ok(tree) => tree,
-        Err(ParseError::NoClass { .. }) => return Ok(None),
-        Err(ParseError::Memory) => return Err(AllocError),
-    };
-    first_form(alloc, &tree)
+    match straight_form(alloc, tree)? {
+        Some(class) => Ok(Judgement::Takes(class)),
+        None => Ok(Judgement::Refuses(Phase::Form, FIRST)),
+    }
+}
+
+/// Judges the tokens of a text.
+fn judge_tokens(alloc: Global, tokens: &Tokens) -> Result<Judgement, AllocError>
+    ensures { IfOk result (JudgesTokens (map (λ t. t.kind) tokens.now.list)) }
+{
+    match parse(alloc, tokens) {
+        Ok(tree) => judge_tree(alloc, &tree),
+        Err(ParseError::NoClass { .. }) => Ok(Judgement::Refuses(Phase::Syntax, FIRST)),
+        Err(ParseError::Memory) => Err(AllocError),
+    }
+}
+
+/// The refusal that an error of the lexer is, unless memory was short.
+fn refusal(error: LexError) -> Result<Judgement, AllocError>
+    ensures { IfOk result (RefusesAt error) }
+{
+    match error {
+        LexError::BadByte(at) => Ok(Judgement::Refuses(Phase::Byte, at)),
+        LexError::BadNumber(at) => Ok(Judgement::Refuses(Phase::Number, at)),
+        LexError::OpenComment(at) => Ok(Judgement::Refuses(Phase::Comment, at)),
+        LexError::Memory => Err(AllocError),
+    }
+}
+
+/// Judges a class text: the phases one after the other, each over what the one before it made.
+pub(crate) fn judge(alloc: Global, text: &[u8]) -> Result<Judgement, AllocError>
+    requires { length text.now ≤ 1048576 }
+    ensures judges { IfOk result (Judges text.now) }
+    ensures takes { (class : ClassOf) → IsClassText text.now (class_tree class) → IsProper class → IfOk result (IsTaken class) }
+{
+    match lex(alloc, text) {
+        Ok(tokens) => judge_tokens(alloc, &tokens),
+        Err(error) => refusal(error),
+    }
 }
 
 /// A method as a caller sees it.
-fn entrance(alloc: Global, method: &FirstMethod) -> Result<Entrance, AllocError>
-    ensures { IfOk result (λ e. e ≡ first_entrance method.now) }
+fn entrance(alloc: Global, method: &StraightMethod) -> Result<Entrance, AllocError>
+    ensures { IfOk result (λ e. e ≡ straight_entrance method.now) }
 {
     let mut parameters = Items::new(alloc);
     for _parameter in method.parameters.as_slice() {
@@ -54,13 +111,11 @@ fn entrance(alloc: Global, method: &FirstMethod) -> Result<Entrance, AllocError>
 }
 
 /// The methods as a caller sees them, by number.
-pub(crate) fn entrances(alloc: Global, class: &FirstClass) -> Result<Vec<Entrance>, AllocError>
+pub(crate) fn entrances(alloc: Global, class: &StraightClass) -> Result<Vec<Entrance>, AllocError>
     ensures { IfOk result (λ v. v.items ≡ entrances_of (class_tree class.now)) }
 {
-    let methods = class.methods.as_slice();
-    let (named, _) = methods.split_at(methods.len().min(MOST_METHODS));
     let mut entrances = Vec::new(alloc);
-    for method in named {
+    for method in class.methods.as_slice() {
         entrances.push(entrance(alloc, method)?)?;
     }
     Ok(entrances)

@@ -4,6 +4,7 @@
 mod accept;
 mod answer;
 mod lines;
+mod machine;
 mod report;
 mod results;
 mod run;

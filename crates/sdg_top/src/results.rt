@@ -1,10 +1,10 @@
-//! Results and the history of calls that run one after the other.
+//! Results and the history as they are printed.
 
-ghost use Rattle.std.specs.Prelude.{◌≡◌, ◌≤◌, ◌<◌, ◌^◌, length, IfOk};
-ghost use Rattle.access_blocks.specs.Source.{numbered};
-ghost use Rattle.plain_java.specs.Serial.{serial};
+ghost use Rattle.std.specs.Prelude.{◌≡◌, map, IfOk};
+ghost use Rattle.std.specs.List.{filter_map};
 
-use sdg_base::{Call, Outcome, Step, copy_of};
+use cluster::{Committed, Past};
+use sdg_base::{Outcome, Step, copy_of};
 use std::alloc::{AllocError, Global};
 
 /// The same outcome again.
@@ -18,37 +18,24 @@ fn copy_of_outcome(alloc: Global, outcome: &Outcome) -> Result<Outcome, AllocErr
     }
 }
 
-/// The outcomes beside the numbers of their calls, from 1.
+/// The results that were committed, in their order, beside the numbers of their calls.
 pub(crate) fn results_of(
     alloc: Global,
-    outcomes: &[Outcome],
+    commits: &[Committed],
 ) -> Result<Vec<(u32, Outcome)>, AllocError>
-    requires { length outcomes.now < 2 ^ 31 }
-    ensures { IfOk result (λ v. v.items ≡ numbered 1 outcomes.now) }
+    ensures { IfOk result (λ v. v.items ≡ map (λ c. (c.shown.call, c.shown.outcome)) commits.now) }
 {
     let mut results = Vec::new(alloc);
-    let mut call: u32 = 1;
-    for outcome in outcomes {
-        results.push((call, copy_of_outcome(alloc, outcome)?))?;
-        call += 1;
+    for commit in commits {
+        let outcome = copy_of_outcome(alloc, &commit.shown.outcome)?;
+        results.push((commit.shown.call, outcome))?;
     }
     Ok(results)
 }
 
-/// The history in which each call begins and runs its one block before the next begins.
-pub(crate) fn history_of(alloc: Global, calls: &[Call]) -> Result<Vec<Step>, AllocError>
-    requires { length calls.now < 2 ^ 31 }
-    ensures { IfOk result (λ v. v.items ≡ serial calls.now) }
+/// The steps as which a history is printed.
+pub(crate) fn history_of(alloc: Global, history: &[Past]) -> Result<Vec<Step>, AllocError>
+    ensures { IfOk result (λ v. v.items ≡ filter_map (λ past. past.shown) history.now) }
 {
-    let mut history = Vec::new(alloc);
-    let mut number: u32 = 1;
-    for _call in calls {
-        history.push(Step::Begin { call: number })?;
-        history.push(Step::Block {
-            call: number,
-            instance: None,
-        })?;
-        number += 1;
-    }
-    Ok(history)
+    history.iter().filter_map(|past| past.shown).collect(alloc)
 }

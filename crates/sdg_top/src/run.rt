@@ -1,10 +1,11 @@
 //! The words, the files and the output of a run.
 
-ghost use Rattle.std.specs.Prelude.{◌≡◌, ◌≢◌, ◌↔◌, ℕ, ◌≤◌, ◌<◌, List, map, codes, IfOk, IsTrue, MatchOption};
+ghost use Rattle.std.specs.Prelude.{◌≡◌, ◌≢◌, ◌↔◌, ℕ, ◌≤◌, ◌<◌, List, length, map, codes, IfOk, IsTrue, MatchOption, Option};
+ghost use Rattle.std.specs.Option.{option_copied, option_map};
 ghost use Rattle.std.specs.String.{string_bytes};
 ghost use Rattle.sdg_keep.specs.Faults.{Rises};
 ghost use Rattle.sdg_keep.specs.Writes.{Appends, AppendsFront};
-ghost use Rattle.sdg_top.specs.Due.{Due, run_words, told, IsGiven, WritesFront, AreTold, IsValid, NoFault};
+ghost use Rattle.sdg_top.specs.Due.{Due, DueForLast, run_words, told, IsGiven, WritesFront, AreTold, IsToldOf, AreValid, IsValid, NoFault};
 ghost use Rattle.sdg_top.specs.Read.{ReadGives};
 
 use crate::answer::{Answer, answer_texts};
@@ -17,7 +18,7 @@ use std::alloc::{AllocError, Global};
 /// The most bytes of a class file.
 const CLASS_LIMIT: u64 = 1048576;
 
-/// The most bytes of a calls file.
+/// The most bytes of a calls file, and of a schedule file.
 const CALLS_LIMIT: u64 = 16777216;
 
 /// What stands in the place of a file: its bytes, or the answer that says why it was not read.
@@ -53,16 +54,43 @@ fn read_file<F: Files>(
     }
 }
 
+/// Reads a schedule's file, if one is named, and answers what it and two texts are due.
+fn answer_last<F: Files>(
+    alloc: Global,
+    files: &mut F,
+    schedule: Option<&String>,
+    class_text: &[u8],
+    calls_text: &[u8],
+) -> Result<Answer, AllocError>
+    requires class_size { length class_text.now ≤ 1048576 }
+    requires calls_size { length calls_text.now ≤ 16777216 }
+    ensures due { IfOk result (λ a. DueForLast (option_map string_bytes (option_copied schedule.entry)) class_text.now calls_text.now
+        (told F.content F.faults F.last_failed files.old files.new) a.status a.text) }
+    ensures complete { (schedule_text : Option (List ℕ)) → IsToldOf (F.content files.old) (option_map string_bytes (option_copied schedule.entry)) schedule_text
+        → AreValid class_text.now calls_text.now schedule_text → NoFault (F.faults files.old) (F.faults files.new) → IfOk result (λ a. a.status ≡ Status.Done) }
+    ensures same { (other : List ℕ) → F.content files.new other ≡ F.content files.old other }
+    ensures falls { F.faults files.old ≤ F.faults files.new }
+{
+    match schedule {
+        None => answer_texts(alloc, class_text, calls_text, None),
+        Some(name) => match read_file(alloc, files, name, CALLS_LIMIT)? {
+            Read::Whole(text) => answer_texts(alloc, class_text, calls_text, Some(text.as_slice())),
+            Read::Not(answer) => Ok(answer),
+        },
+    }
+}
+
 /// Reads the files of a run in their order, and answers what they are due.
 fn answer_run<F: Files>(
     alloc: Global,
     files: &mut F,
     class: &String,
     calls: &String,
+    schedule: Option<&String>,
 ) -> Result<Answer, AllocError>
-    ensures due { IfOk result (λ a. Due (run_words (string_bytes class.now) (string_bytes calls.now))
+    ensures due { IfOk result (λ a. Due (run_words (string_bytes class.now) (string_bytes calls.now) (option_map string_bytes (option_copied schedule.entry)))
         (told F.content F.faults F.last_failed files.old files.new) a.status a.text) }
-    ensures complete { AreTold (F.content files.old (string_bytes class.now)) (F.content files.old (string_bytes calls.now))
+    ensures complete { AreTold (F.content files.old) (string_bytes class.now) (string_bytes calls.now) (option_map string_bytes (option_copied schedule.entry))
         → NoFault (F.faults files.old) (F.faults files.new) → IfOk result (λ a. a.status ≡ Status.Done) }
     ensures same { (other : List ℕ) → F.content files.new other ≡ F.content files.old other }
     ensures falls { F.faults files.old ≤ F.faults files.new }
@@ -75,7 +103,13 @@ fn answer_run<F: Files>(
         Read::Whole(text) => text,
         Read::Not(answer) => return Ok(answer),
     };
-    answer_texts(alloc, class_text.as_slice(), calls_text.as_slice())
+    answer_last(
+        alloc,
+        files,
+        schedule,
+        class_text.as_slice(),
+        calls_text.as_slice(),
+    )
 }
 
 /// Whether a word is the command `run`.
@@ -85,19 +119,16 @@ fn is_run(word: &String) -> bool
     word.as_str() == "run"
 }
 
-/// The names of the two files, where the words are `run CLASS CALLS`.
-fn files_of(words: &[String]) -> Option<(&String, &String)>
+/// The names of the files, where the words are `run CLASS CALLS` or `run CLASS CALLS SCHEDULE`.
+fn files_of(words: &[String]) -> Option<(&String, &String, Option<&String>)>
     ensures { MatchOption result
-        ((class calls : List ℕ) → map string_bytes words.now ≡ run_words class calls → ⊥)
-        (λ files. map string_bytes words.now ≡ run_words (string_bytes files.0.now) (string_bytes files.1.now)) }
+        ((class calls : List ℕ) (schedule : Option (List ℕ)) → map string_bytes words.now ≡ run_words class calls schedule → ⊥)
+        (λ files. map string_bytes words.now ≡ run_words (string_bytes files.0.now) (string_bytes files.1.now) (option_map string_bytes (option_copied files.2))) }
 {
     match words {
-        [command, class, calls] => {
-            if is_run(command) {
-                Some((class, calls))
-            } else {
-                None
-            }
+        [command, class, calls] if is_run(command) => Some((class, calls, None)),
+        [command, class, calls, schedule] if is_run(command) => {
+            Some((class, calls, Some(schedule)))
         }
         _ => None,
     }
@@ -113,7 +144,7 @@ fn answer<F: Files>(alloc: Global, words: &[String], files: &mut F) -> Result<An
     ensures falls { F.faults files.old ≤ F.faults files.new }
 {
     match files_of(words) {
-        Some((class, calls)) => answer_run(alloc, files, class, calls),
+        Some((class, calls, schedule)) => answer_run(alloc, files, class, calls, schedule),
         None => Ok(Answer {
             status: Status::Words,
             text: usage(alloc)?,
@@ -138,7 +169,7 @@ fn say<S: Sink>(out: &mut S, answer: &Answer) -> Status
 
 /// Runs the program on its words, which leave out the program's name, over files and an output.
 ///
-/// The one command today is `run CLASS CALLS`.
+/// The commands today are `run CLASS CALLS` and `run CLASS CALLS SCHEDULE`.
 pub fn java2sdg<F: Files, S: Sink>(
     alloc: Global,
     words: &[String],
@@ -146,7 +177,8 @@ pub fn java2sdg<F: Files, S: Sink>(
     out: &mut S,
 ) -> Status
     // An answer is the one that is due, and all of its text is written and nothing else. For `Done`
-    // it is the report, with plain Java's results and a history that explains them.
+    // it is the report of the world that the schedule fixes: one result for each call, those of the
+    // annotated source stepped in the history's order, and of plain Java where calls do not interleave.
     ensures answers { IsGiven result → (text : List ℕ)
         × Due (map string_bytes words.now) (told F.content F.faults F.last_failed files.old files.new) result text
         × Appends (S.written out.old) (S.written out.new) text }

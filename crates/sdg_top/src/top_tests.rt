@@ -113,9 +113,29 @@ fn rows(rt: HostRuntime) -> Result<(), Fail> {
         (b"class A { }", CALLS, Status::Class, form),
         // The class is judged before the calls.
         (b"class A { }", b"nonsense", Status::Class, form),
-        (b"", CALLS, Status::Class, form),
     ] {
         writes(&rt, alloc, RUN, class, calls, (status, text))?;
+    }
+    Ok(())
+}
+
+#[test]
+fn each_phase_refuses(rt: HostRuntime) -> Result<(), Fail> {
+    for (class, text) in [
+        (
+            b"class A {\n  #".as_slice(),
+            b"class refused: byte at 2:3\n".as_slice(),
+        ),
+        (b"class A { 08 }", b"class refused: number at 1:11\n"),
+        (b"class A { /* }", b"class refused: comment at 1:11\n"),
+        // The first place decides, whatever comes behind it.
+        (b"09 # /*", b"class refused: number at 1:1\n"),
+        (b"", b"class refused: syntax at 1:1\n"),
+        (b"class A { } }", b"class refused: syntax at 1:1\n"),
+        (b"class A { int x; }", b"class refused: syntax at 1:1\n"),
+        (b"class A { }", b"class refused: form at 1:1\n"),
+    ] {
+        writes(&rt, rt.alloc(), RUN, class, CALLS, (Status::Class, text))?;
     }
     Ok(())
 }
@@ -152,7 +172,7 @@ fn faulty_words(rt: HostRuntime) -> Result<(), Fail> {
         "",
         "run",
         "run Kv1.java",
-        "run Kv1.java calls more",
+        "run Kv1.java calls schedule more",
         "Run Kv1.java calls",
         "plain Kv1.java calls",
         "--help",
@@ -299,5 +319,183 @@ fn one_call_too_many(rt: HostRuntime) -> Result<(), Fail> {
     }
     let refused = b"calls refused: line 65537 rule 5\n".as_slice();
     writes(&rt, alloc, RUN, CLASS, &calls, (Status::Text, refused))?;
+    Ok(())
+}
+
+const KV: &[u8] =
+    b"class Kv { // a store\n  @Partitioned Table t = new Table();\n  void put(long k, long v) { t.put(k, v); }\n  long get(long k) { return t.get(k); }\n  void bump(long j, long k) { long x = t.get(k); t.put(j, x + 1); }\n  void inc(long k) { long x = t.get(k); t.put(k, x + 1); }\n}\n";
+
+const LAST: &str = "run Kv.java calls schedule";
+
+/// Runs `run Kv.java calls schedule` over three files in memory, and compares the status and all that is written.
+fn writes_under(
+    rt: &impl Abort,
+    alloc: Global,
+    texts: (&[u8], &[u8], &[u8]),
+    want: (Status, &[u8]),
+) -> Result<(), AllocError> {
+    let words = words_of(alloc, LAST)?;
+    let mut list = FileList::new(alloc);
+    for (name, bytes) in [
+        (b"Kv.java".as_slice(), texts.0),
+        (b"calls".as_slice(), texts.1),
+        (b"schedule".as_slice(), texts.2),
+    ] {
+        list.push((
+            Name::from_slice(alloc, name)?,
+            Bytes::from_slice(alloc, bytes)?,
+        ))?;
+    }
+    let mut files = MemoryFiles::new(alloc, list, sound(alloc));
+    let mut out = MemorySink::new(alloc, sound(alloc));
+    let status = java2sdg(alloc, &words, &mut files, &mut out);
+    assert_eq!(rt; status, want.0);
+    assert_eq!(rt; out.written.as_slice(), want.1);
+    Ok(())
+}
+
+#[test]
+fn an_update_is_lost(rt: HostRuntime) -> Result<(), Fail> {
+    let both_first =
+        b"sdg nodes 3 slots 1 stores 1 width 1\ntake in caller 0\ntake in caller 0\ntake t/0 in 0\ntake t/0 in 0\n".as_slice();
+    // Two keys by two variables are two blocks, and both calls read before either writes.
+    writes_under(
+        &rt,
+        rt.alloc(),
+        (KV, b"bump 1 1\nbump 1 1\nget 1\n", both_first),
+        (
+            Status::Done,
+            b"sdg nodes 3 slots 1 stores 1 width 1\nevent 1 done\nevent 2 done\nevent 3 done\nevent 4 done\nresult 1 void\nresult 2 void\nresult 3 1\nstep begin 1\nstep begin 2\nstep block 1\nstep block 2\nstep block 1\nstep block 2\nstep begin 3\nstep block 3\nend 3 results, 8 steps, 8 kept\n",
+        ),
+    )?;
+    // One key variable is one block, and nothing is lost.
+    writes_under(
+        &rt,
+        rt.alloc(),
+        (KV, b"inc 1\ninc 1\nget 1\n", both_first),
+        (
+            Status::Done,
+            b"sdg nodes 3 slots 1 stores 1 width 1\nevent 1 done\nevent 2 done\nevent 3 done\nevent 4 done\nresult 1 void\nresult 2 void\nresult 3 2\nstep begin 1\nstep begin 2\nstep block 1\nstep block 2\nstep begin 3\nstep block 3\nend 3 results, 6 steps, 6 kept\n",
+        ),
+    )?;
+    Ok(())
+}
+
+#[test]
+fn failing_events_change_nothing(rt: HostRuntime) -> Result<(), Fail> {
+    // The same run with and without events whose items or results are not there.
+    writes_under(
+        &rt,
+        rt.alloc(),
+        (
+            KV,
+            b"inc 1\nget 1\n",
+            b"# nothing is there yet\nsdg nodes 1 slots 1 stores 1 width 1\ntake t/0 in 0\nsink t/0\nsink in\ntake join t/0 3\ntake in caller 0\ntake in t/0 0\ntake t/0 in 63\ntake t/0 in 0\nsink t/0\nsink t/0\n",
+        ),
+        (
+            Status::Done,
+            b"sdg nodes 1 slots 1 stores 1 width 1\nevent 1 empty\nevent 2 empty\nevent 3 empty\nevent 4 empty\nevent 5 done\nevent 6 empty\nevent 7 done\nevent 8 empty\nevent 9 done\nevent 10 empty\nresult 1 void\nresult 2 1\nstep begin 1\nstep block 1\nstep begin 2\nstep block 2\nend 2 results, 4 steps, 4 kept\n",
+        ),
+    )?;
+    writes_under(
+        &rt,
+        rt.alloc(),
+        (
+            KV,
+            b"inc 1\nget 1\n",
+            b"sdg nodes 1 slots 1 stores 1 width 1\ntake in caller 0\ntake t/0 in 63\nsink t/0\n",
+        ),
+        (
+            Status::Done,
+            b"sdg nodes 1 slots 1 stores 1 width 1\nevent 1 done\nevent 2 done\nevent 3 done\nresult 1 void\nresult 2 1\nstep begin 1\nstep block 1\nstep begin 2\nstep block 2\nend 2 results, 4 steps, 4 kept\n",
+        ),
+    )?;
+    Ok(())
+}
+
+const TWO: &[u8] =
+    b"class Two {\n  @Partitioned Table t = new Table();\n  @Partitioned Table u = new Table();\n  void put(long k, long v) { t.put(k, v); }\n  void move(long k) { long x = t.get(k); u.put(k, x); t.put(k, 0); }\n  long see(long k) { return u.get(k); }\n}\n";
+
+#[test]
+fn items_go_between_tables(rt: HostRuntime) -> Result<(), Fail> {
+    writes_under(
+        &rt,
+        rt.alloc(),
+        (
+            TWO,
+            b"put 1 5\nmove 1\nmove 1\nsee 1\n",
+            b"sdg nodes 2 slots 1 stores 1 width 1\ntake in caller 0\ntake in caller 0\ntake in caller 0\ntake t/0 in 0\ntake t/0 in 0\ntake t/0 in 0\n",
+        ),
+        (
+            Status::Done,
+            b"sdg nodes 2 slots 1 stores 1 width 1\nevent 1 done\nevent 2 done\nevent 3 done\nevent 4 done\nevent 5 done\nevent 6 done\nresult 1 void\nresult 2 void\nresult 3 void\nresult 4 5\nstep begin 1\nstep begin 2\nstep begin 3\nstep block 1\nstep block 2\nstep block 3\nstep block 2\nstep block 2\nstep block 3\nstep block 3\nstep begin 4\nstep block 4\nend 4 results, 12 steps, 12 kept\n",
+        ),
+    )?;
+    Ok(())
+}
+
+#[test]
+fn schedules_are_refused(rt: HostRuntime) -> Result<(), Fail> {
+    for (schedule, text) in [
+        (
+            b"take in caller 0\n".as_slice(),
+            b"schedule refused: line 1 rule 2\n".as_slice(),
+        ),
+        (
+            b"sdg nodes 1 slots 1 stores 1 width 1\ntake u/0 in 0\n",
+            b"schedule refused: line 2 rule 4\n",
+        ),
+        (
+            b"#\nsdg nodes 1 slots 1 stores 1 width 1\n\nsink t/0\ntake in caller 64\n",
+            b"schedule refused: line 5 rule 5\n",
+        ),
+    ] {
+        writes_under(
+            &rt,
+            rt.alloc(),
+            (KV, b"get 1\n", schedule),
+            (Status::Text, text),
+        )?;
+    }
+    // The calls are judged before the schedule, and the class before both.
+    writes_under(
+        &rt,
+        rt.alloc(),
+        (KV, b"got 1\n", b"nonsense"),
+        (Status::Text, b"calls refused: line 1 rule 2\n"),
+    )?;
+    writes_under(
+        &rt,
+        rt.alloc(),
+        (b"class", b"got 1\n", b"nonsense"),
+        (Status::Class, b"class refused: syntax at 1:1\n"),
+    )?;
+    Ok(())
+}
+
+#[test]
+fn schedule_files(rt: HostRuntime) -> Result<(), Fail> {
+    let alloc = rt.alloc();
+    // A schedule without lines is a run without a schedule.
+    writes_under(&rt, alloc, (CLASS, CALLS, b""), (Status::Done, REPORT))?;
+    let gone = b"cannot read: gone\n".as_slice();
+    writes(
+        &rt,
+        alloc,
+        "run Kv1.java calls gone",
+        CLASS,
+        CALLS,
+        (Status::Read, gone),
+    )?;
+    for (length, want) in [
+        (16_777_216, (Status::Done, REPORT)),
+        (
+            16_777_217,
+            (Status::TooLong, b"too long: schedule\n".as_slice()),
+        ),
+    ] {
+        let schedule = filled(alloc, b"#", b'x', length)?;
+        writes_under(&rt, alloc, (CLASS, CALLS, &schedule), want)?;
+    }
     Ok(())
 }

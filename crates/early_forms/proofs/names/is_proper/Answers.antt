@@ -1,14 +1,12 @@
-use Rattle.std.proofs.Common.{ap, ◌∙◌}
-use Rattle.early_forms.proofs.Distinct.{texts}
+use Rattle.std.proofs.lemmas.Result.{IfOk-weaker}
 use Rattle.early_forms.proofs.Proper.{class_proper}
 use Rattle.early_forms.proofs.names.is_proper.Goals as goal
 
 pub returns : goal.returns
 returns c =
-    let methods = c.in_ok-methods_are_proper.ensures.0 c.if-not-branch-2.false in
-    let names = rw c.as_slice.ensures at c.in_ok-names.ensures in
-    class_proper c.args.class.now c.as_slice-2.result.now _ _ _ c.as_slice-4.ensures c.as_slice-5.ensures
-    (ap texts c.as_slice-2.ensures.value ∙ names)
-    (c.in_ok-are_distinct.ensures.0 c.if-not-branch.false)
-    (rw c.as_slice-3.ensures at methods)
-    c.are_free.ensures
+    let fields = rw c.as_slice-fields.ensures at (c.in_ok-fields_differ.ensures.0 c.if-not-branch.false) in
+    let names = rw c.as_slice-methods.ensures at (c.in_ok-methods_differ.ensures.0 c.if-not-branch-2.false) in
+    let methods = rw (c.as_slice-fields.ensures, c.as_slice-methods.ensures) at (c.in_ok-methods_are_proper.ensures.0 c.if-not-branch-3.false) in
+    IfOk-weaker _ _ _
+    (λ free says. class_proper c.args.class.now free (c.has_form_size.ensures.0 c.if-not-has_form_size.false) fields names methods says)
+    c.class_is_free.ensures

@@ -8,7 +8,7 @@ pub loop-method-preserved : goal.loop-method-preserved
 loop-method-preserved c =
     let proper = c.in_ok-method_is_proper.ensures in
     let h = c.if-not-branch.false in
-    all_more (MethodIsProper c.args.field.now) c.args.methods.now c.loop-method.method-index c.method-item.result
+    all_more (MethodIsProper c.args.fields.now) c.args.methods.now c.loop-method.method-index c.method-item.result
     c.loop-method-test.true c.method-item.is c.loop-method.invariant (proper.0 h)
 
 pub returns : goal.returns

@@ -3,4 +3,4 @@ use Rattle.early_forms.specs.Names.{MethodIsProper}
 use Rattle.early_forms.proofs.names.methods_are_proper.Given as goal
 
 abbrev pub invariant-loop-method : goal.invariant-loop-method
-invariant-loop-method l = All (MethodIsProper l.field) (take l.method-index l.methods)
+invariant-loop-method l = All (MethodIsProper l.fields) (take l.method-index l.methods)

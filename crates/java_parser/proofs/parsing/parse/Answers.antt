@@ -1,21 +1,25 @@
 use Rattle.std.proofs.Common.{inl, inr, ap, Ok, Err}
-use Rattle.std.proofs.lemmas.Result.{err_from_is_err_and}
-use Rattle.java_parser.specs.Reading.{kinds}
-use Rattle.java_parser.proofs.Parsed.{is_found, is_only, is_memory}
+use Rattle.java_parser.specs.Words.{kinds}
+use Rattle.java_parser.proofs.Parsed.{is_only, is_memory, is_start, same_error}
+use Rattle.java_parser.proofs.ClassLaws.{is_found}
 use Rattle.java_parser.proofs.parsing.parse.Goals as goal
 
-pub returns-in_err-parts-clause-only : goal.returns-in_err-parts-clause-only
-returns-in_err-parts-clause-only c = λ tree shape e.
-    let p = err_from_is_err_and c.from_residual.result c.from_residual.ensures.1 in
-    let failed = rw c.as_slice.ensures at c.in_err-parts.ensures in
-    inr (rw (p.1, p.2) (ap (λ x. Err x) (is_memory _ (kinds c.args.tokens.now.list) tree failed shape e)))
+pub returns-in-Ok-clause-found : goal.returns-in-Ok-clause-found
+returns-in-Ok-clause-found c =
+    let read = rw c.as_slice.ensures at c.in-Ok.ensures in
+    is_found (kinds c.args.tokens.now.list) c.in-Ok.class read
 
-pub returns-clause-found : goal.returns-clause-found
-returns-clause-found c =
-    let read = rw c.as_slice.ensures at c.in_ok-parts.ensures in
-    is_found (kinds c.args.tokens.now.list) c.in_ok-parts.parts _ read c.in_ok-class_tree.ensures
+pub returns-in-Ok-clause-only : goal.returns-in-Ok-clause-only
+returns-in-Ok-clause-only c = λ tree e placed low.
+    let read = rw c.as_slice.ensures at c.in-Ok.ensures in
+    inl (ap (λ x. Ok x) (is_only (kinds c.args.tokens.now.list) c.in-Ok.class tree read e placed low))
 
-pub returns-clause-only : goal.returns-clause-only
-returns-clause-only c = λ tree shape e.
-    let read = rw c.as_slice.ensures at c.in_ok-parts.ensures in
-    inl (ap (λ x. Ok x) (is_only (kinds c.args.tokens.now.list) c.in_ok-parts.parts _ tree read c.in_ok-class_tree.ensures shape e))
+pub returns-in-Err-clause-only : goal.returns-in-Err-clause-only
+returns-in-Err-clause-only c = λ tree e placed low.
+    let failed = rw c.as_slice.ensures at c.in-Err.ensures in
+    inr (rw c.error_of.ensures (ap (λ x. Err x) (is_memory c.in-Err.refusal (kinds c.args.tokens.now.list) tree failed e placed low)))
+
+pub returns-in-Err-clause-place : goal.returns-in-Err-clause-place
+returns-in-Err-clause-place c = λ place e.
+    let same = rw c.error_of.ensures at e in
+    is_start c.in-Err.refusal place (same_error _ _ same)

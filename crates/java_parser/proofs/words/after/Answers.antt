@@ -1,6 +1,6 @@
 use Rattle.std.proofs.Common.{map, ◌+◌, drop, sym, ◌∙◌}
 use Rattle.std.proofs.lemmas.Result.{err_from_is_err_and}
-use Rattle.java_parser.specs.Reading.{kinds, kind_of, after}
+use Rattle.java_parser.specs.Words.{kinds, kind_of, after}
 use Rattle.java_parser.proofs.Steps.{goes_on, fails}
 use Rattle.java_parser.proofs.After.{after_one, after_all}
 use Rattle.java_parser.proofs.words.after.Goals as goal

@@ -1,5 +1,5 @@
 use Rattle.std.proofs.Common.{◌≡◌, map, drop}
-use Rattle.java_parser.specs.Reading.{kinds, kind_of, after}
+use Rattle.java_parser.specs.Words.{kinds, kind_of, after}
 use Rattle.java_parser.proofs.words.after.Given as goal
 
 -- what follows the words that are left is what follows them all

@@ -1,36 +1,40 @@
-use Rattle.std.proofs.Common.{rules, w64, ◌∙◌, ap}
-use Rattle.std.proofs.lemmas.Int.{to_z-of_z}
-use Rattle.state_classes.specs.Contents.{value_at}
-use Rattle.plain_java.proofs.Known.{known_put, known_get, known_key, known_result, result_get, result_get_into}
+use Rattle.std.proofs.Common.{◌<◌, ◌≤◌, Bool, length, get_or, ◌∙◌, ap, refl, subst}
+use Rattle.std.specs.List.{zip}
+use Rattle.plain_java.specs.Bodies.{StatementRuns, begin_at}
+use Rattle.plain_java.specs.Machines.{at}
+use Rattle.plain_java.proofs.StraightBodies.{machine_begins}
+use Rattle.plain_java.proofs.WholeBodies.{body_starts, next_known, body_goes_on, end_known}
 use Rattle.plain_java.proofs.run.run_method.Goals as goal
 
-pub long_of-requires : goal.long_of-requires
-long_of-requires c = (known_put _ _ _ _ c.in-Put.value c.in-Put.is (cc) c.requires.known).0
+pub loop-statement-init : goal.loop-statement-init
+loop-statement-init c =
+    let m = c.args.method.now in
+    let start = begin_at (zip m.parameters c.args.arguments.now) c.args.tables.now in
+    body_starts m.statements m.ending m.parameters c.args.arguments.now start (at c.new-machine.result c.args.tables.now) c.requires.as_many c.requires.known refl
+    (machine_begins c.new-machine.result m.parameters c.as_slice.result.now c.args.arguments.now c.args.tables.now c.as_slice.ensures c.new-machine.ensures.site c.new-machine.ensures.scope c.new-machine.ensures.turns)
 
-pub long_of-requires-in-Put : goal.long_of-requires-in-Put
-long_of-requires-in-Put c = (known_put _ _ _ c.in-Put.key _ c.in-Put.is (cc) c.requires.known).1
+pub run_statement-requires : goal.run_statement-requires
+run_statement-requires c =
+    let n = c.loop-statement.statement-index in
+    let statements = c.args.method.now.statements in
+    let within : n < length statements = rw c.as_slice-statement-items.ensures at c.loop-statement-test.true in
+    let is = c.statement-item.is ∙ ap (λ xs. get_or xs n c.statement-item.result) c.as_slice-statement-items.ensures in
+    next_known _ statements _ _ n (at c.loop-statement.machine c.loop-statement.tables) c.loop-statement.invariant c.statement-item.result within is
 
-pub long_of-requires-in-Get : goal.long_of-requires-in-Get
-long_of-requires-in-Get c = known_get _ _ _ _ c.in-Get.is (cc) c.requires.known
+pub loop-statement-preserved : goal.loop-statement-preserved
+loop-statement-preserved c =
+    let n = c.loop-statement.statement-index in
+    let statements = c.args.method.now.statements in
+    let within : n < length statements = rw c.as_slice-statement-items.ensures at c.loop-statement-test.true in
+    let is = c.statement-item.is ∙ ap (λ xs. get_or xs n c.statement-item.result) c.as_slice-statement-items.ensures in
+    let old = at c.loop-statement.machine c.loop-statement.tables in
+    let next = at c.run_statement.new.machine c.run_statement.new.tables in
+    body_goes_on _ statements _ _ n old c.loop-statement.invariant c.statement-item.result within is next
+    (subst (λ (b : Bool). StatementRuns c.statement-item.result old next b) c.if-not-branch.false c.in_ok-run_statement.ensures)
 
-pub long_of-requires-in-GetInto : goal.long_of-requires-in-GetInto
-long_of-requires-in-GetInto c = known_key _ _ _ c.in-GetInto.local _ c.in-GetInto.result c.in-GetInto.is (cc) c.requires.known
-
-pub long_of-requires-in-GetInto-2 : goal.long_of-requires-in-GetInto-2
-long_of-requires-in-GetInto-2 c = known_result _ _ _ c.in-GetInto.local c.in-GetInto.key _ c.in-GetInto.is (cc) c.requires.known
-
-pub returns-in-Get : goal.returns-in-Get
-returns-in-Get c =
-    let k = to_z-of_z w64 c.long_of-in-Get.result (search rules) in
-    let v = to_z-of_z w64 c.get-value.result (search rules) in
-    result_get c.args.method.now c.args.arguments.now c.args.table.now c.in-Get.key c.new-scope.result c.long_of-in-Get.result _ c.in-Get.is (cc) c.long_of-in-Get.ensures
-    (v ∙ c.get-value.ensures ∙ ap (λ n. value_at n c.args.table.now) k)
-
-pub returns-in-GetInto : goal.returns-in-GetInto
-returns-in-GetInto c =
-    let k = to_z-of_z w64 c.long_of-in-GetInto.result (search rules) in
-    let v = to_z-of_z w64 c.get-value-in-GetInto.result (search rules) in
-    let r = to_z-of_z w64 c.long_of-in-GetInto-2.result (search rules) in
-    result_get_into c.args.method.now c.args.arguments.now c.args.table.now c.in-GetInto.local c.in-GetInto.key c.in-GetInto.result c.new-scope.result c.with_local-scope.result
-    c.long_of-in-GetInto.result c.get-value-in-GetInto.result _ c.in-GetInto.is (cc) c.long_of-in-GetInto.ensures
-    (c.get-value-in-GetInto.ensures ∙ ap (λ n. value_at n c.args.table.now) k) (cc) (r ∙ c.long_of-in-GetInto-2.ensures)
+pub run_ending-requires : goal.run_ending-requires
+run_ending-requires c =
+    let n = c.loop-statement.statement-index in
+    let statements = c.args.method.now.statements in
+    let past : length statements ≤ n = rw c.as_slice-statement-items.ensures at c.loop-statement-test.false in
+    end_known _ statements _ _ n (at c.loop-statement.machine c.loop-statement.tables) c.loop-statement.invariant past

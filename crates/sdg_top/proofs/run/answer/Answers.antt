@@ -1,7 +1,8 @@
 use Rattle.std.proofs.Common.{map, refl, sym, subst}
 use Rattle.std.specs.String.{string_bytes}
 use Rattle.sdg_top.specs.declared.status.Status.TheVariants as status
-use Rattle.sdg_top.specs.Due.{Text, Due, NoCommand, told}
+use Rattle.sdg_top.specs.Accepted.{Text}
+use Rattle.sdg_top.specs.Due.{Due, NoCommand, told}
 use Rattle.sdg_top.proofs.run.answer.Goals as goal
 
 pub returns-in_ok-usage-in-None-clause-due : goal.returns-in_ok-usage-in-None-clause-due

@@ -1,0 +1,22 @@
+pub mod Simulates
+pub mod Graphs
+pub mod Bodies
+pub mod Steps
+pub mod Heads
+pub mod Marks
+pub mod Accesses
+pub mod Places
+pub mod Live
+pub mod Lists
+pub mod Moves
+pub mod Scopes
+pub mod SumCode
+pub mod SumTrees
+pub mod Statements
+pub mod Rows
+pub mod PlainResults
+mod Examples
+pub mod Numbering
+pub mod LiveSets
+pub mod CodeParts
+pub mod Proper

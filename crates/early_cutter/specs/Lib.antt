@@ -1,0 +1,11 @@
+pub mod Points
+pub mod Scopes
+pub mod Sums
+pub mod Lowering
+pub mod Liveness
+pub mod Cutting
+pub mod Bounds
+pub mod Passes
+pub mod Values
+pub mod Agrees
+pub mod Runs

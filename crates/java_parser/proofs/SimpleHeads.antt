@@ -1,0 +1,94 @@
+-- What the tokens of a statement that is an expression begin with.
+use Rattle.std.proofs.Common.{◌≡◌, ℕ, zero, suc, max, ◌≤◌, ◌<◌, Bool, true, false, not, ◌&&◌, List, [], ◌∷◌, ◌++◌, length, map, codes, Option, Some, None, Result, Ok, Err, ◌⊎◌, inl, inr, if◌then◌else◌, refl, sym, ap, subst, ◌∙◌, append_assoc, arith}
+use Rattle.std.specs.List.{flat_map}
+use Rattle.java_tree.specs.declared.token.Kind.{Kind}
+use Rattle.java_tree.specs.declared.token.Kind.TheVariants as k
+use Rattle.java_tree.specs.declared.token.Symbol.{Symbol}
+use Rattle.java_tree.specs.declared.token.Symbol.TheVariants as symbol
+use Rattle.java_tree.specs.declared.tree.AssignOp.{AssignOp}
+use Rattle.java_tree.specs.declared.tree.AssignOp.TheVariants as assigned
+use Rattle.java_tree.specs.declared.tree.TypeName.{TypeName}
+use Rattle.java_tree.specs.declared.tree.TypeName.TheVariants as type_name
+use Rattle.java_tree.specs.declared.tree.Local.{Local}
+use Rattle.java_tree.specs.declared.tree.Simple.{Simple}
+use Rattle.java_tree.specs.declared.tree.Simple.TheVariants as simple
+use Rattle.java_tree.specs.declared.tree.Value.{Value}
+use Rattle.java_tree.specs.declared.tree.CallForm.{CallForm, out-CallForm, roll-CallForm, roll-out-CallForm}
+use Rattle.java_tree.specs.declared.tree.CallForm.TheOpen.{CallForm-F}
+use Rattle.java_tree.specs.declared.tree.CallForm.TheOpen as layer
+use Rattle.java_tree.specs.declared.tree.CallForm.TheFolds.{fold-roll-CallForm}
+use Rattle.java_tree.specs.declared.tree.Expr.{Expr}
+use Rattle.java_tree.specs.declared.tree.Operation.{Operation}
+use Rattle.java_tree.specs.Tokens.{Kinds, separated, annotation, type_tokens, local_tokens, initialiser, assign_symbol, simple_tokens, value_tokens, call_tokens, call_step, expr_step, operation_step, value_step}
+use Rattle.java_tree.specs.Placed.{all_of, is_placed_value, is_placed_option, is_placed_local, is_placed_simple, is_placed_call}
+use Rattle.java_tree.specs.Heights.{call_layer_height, expr_layer_height, operation_layer_height, value_layer_height, greatest, option_height, value_height, call_height, local_height, simple_height}
+use Rattle.java_parser.specs.declared.forms.SimpleForm.{SimpleForm}
+use Rattle.java_parser.specs.declared.forms.SimpleForm.TheVariants as form
+use Rattle.java_parser.specs.declared.forms.StatementForm.TheVariants as statement
+use Rattle.java_parser.specs.Words.{◌>>=◌, Fault, Reading, same_word, begins, after, name_at, many_at, all_at}
+use Rattle.java_parser.specs.Members.{dot, at_sign, assign, comma, semicolon, open_paren, close_paren, open_bracket, behind, optional_at, annotated, is_named, type_at}
+use Rattle.java_parser.specs.Expressions.{value_at, call_at}
+use Rattle.java_parser.specs.Forms.{form_behind, simple_form, statement_form}
+use Rattle.java_parser.specs.Simples.{inside, begins_name, local_ahead, initialiser_at, local_at, named_before, named_behind, simple_of, simple_in, simple_at, other_simple_at, other_simples_at, simples_at}
+use Rattle.java_parser.specs.Statements.{close_brace, else_word, has_more}
+use Rattle.java_parser.proofs.Laws.{bind_ok, same_Ok, chosen, then_is, Takes, Keeps, Again, Any, given, kept, after_takes, after_again, both, begins_same, name_takes, name_again, many_takes, many_keeps, Begins, all_again, separated-map}
+use Rattle.java_parser.proofs.Around.{optional, optional_takes, optional_again, annotated_takes, annotated_again, type_takes, type_again, type_not_at, comma_begins}
+use Rattle.java_parser.proofs.ExpressionLaws.{ends, value_takes, value_keeps, value_again, call_takes, call_keeps, call_again}
+
+abbrev pub form_of : Simple → SimpleForm
+form_of (simple.Assign name op v) = form.Assign op
+form_of (simple.PostIncrement name) = form.PostIncrement
+form_of (simple.PostDecrement name) = form.PostDecrement
+form_of (simple.PreIncrement name) = form.PreIncrement
+form_of (simple.PreDecrement name) = form.PreDecrement
+form_of (simple.Call true call) = form.GlobalCall
+form_of (simple.Call false call) = form.Call
+
+-- what the tokens of a simple statement begin with
+pub record BeginsSimple (f : SimpleForm) (ks : Kinds) : Type 0 where
+  pub form_is : simple_form ks ≡ f
+  pub not_local : local_ahead ks ≡ false
+  pub not_semicolon : begins semicolon ks ≡ false
+  pub not_close : begins close_paren ks ≡ false
+  pub statement_is : statement_form ks ≡ statement.Simple
+  pub goes_on : has_more ks ≡ true
+  pub not_else : begins else_word ks ≡ false
+
+named_head : (s : Symbol) (name : List ℕ) (more : Kinds) → BeginsSimple (form_behind s) (k.Identifier name ∷ k.Symbol s ∷ more)
+unfolding simple_form local_ahead begins_name begins same_word statement_form has_more
+named_head s name more = record { form_is = refl; not_local = refl; not_semicolon = refl; not_close = refl; statement_is = refl; goes_on = refl; not_else = refl }
+
+call_layer_begins : (x : CallForm-F CallForm Expr Operation Value) (rest : Kinds) → BeginsSimple form.Call (call_tokens (roll-CallForm x) ++ rest)
+call_layer_begins (layer.Own name args) rest =
+    subst (λ (ks : Kinds). BeginsSimple form.Call (ks ++ rest)) (sym (fold-roll-CallForm Kinds Kinds Kinds Kinds call_step expr_step operation_step value_step (layer.Own name args))) (named_head symbol.OpenParen name _)
+call_layer_begins (layer.Of object name args) rest =
+    subst (λ (ks : Kinds). BeginsSimple form.Call (ks ++ rest)) (sym (fold-roll-CallForm Kinds Kinds Kinds Kinds call_step expr_step operation_step value_step (layer.Of object name args))) (named_head symbol.Dot object _)
+call_layer_begins (layer.OfMember object at name args) rest =
+    subst (λ (ks : Kinds). BeginsSimple form.Call (ks ++ rest)) (sym (fold-roll-CallForm Kinds Kinds Kinds Kinds call_step expr_step operation_step value_step (layer.OfMember object at name args))) (named_head symbol.OpenBracket object _)
+
+call_begins : (c : CallForm) (rest : Kinds) → BeginsSimple form.Call (call_tokens c ++ rest)
+call_begins c rest = subst (λ (d : CallForm). BeginsSimple form.Call (call_tokens d ++ rest)) (roll-out-CallForm c) (call_layer_begins (out-CallForm c) rest)
+
+assign_is : (op : AssignOp) → form_behind (assign_symbol op) ≡ form.Assign op
+assign_is assigned.Assign = refl
+assign_is assigned.Add = refl
+assign_is assigned.Sub = refl
+assign_is assigned.Mul = refl
+assign_is assigned.Div = refl
+assign_is assigned.Rem = refl
+assign_is assigned.And = refl
+assign_is assigned.Or = refl
+assign_is assigned.Xor = refl
+assign_is assigned.Shl = refl
+assign_is assigned.Shr = refl
+assign_is assigned.UShr = refl
+
+pub simple_begins : (x : Simple) (rest : Kinds) → BeginsSimple (form_of x) (simple_tokens x ++ rest)
+unfolding simple_form local_ahead begins_name is_named behind begins same_word statement_form has_more
+simple_begins (simple.Assign name op v) rest = subst (λ f. BeginsSimple f (k.Identifier name ∷ k.Symbol (assign_symbol op) ∷ (value_tokens v ++ rest))) (assign_is op) (named_head (assign_symbol op) name (value_tokens v ++ rest))
+simple_begins (simple.PostIncrement name) rest = named_head symbol.PlusPlus name rest
+simple_begins (simple.PostDecrement name) rest = named_head symbol.MinusMinus name rest
+simple_begins (simple.PreIncrement name) rest = record { form_is = refl; not_local = refl; not_semicolon = refl; not_close = refl; statement_is = refl; goes_on = refl; not_else = refl }
+simple_begins (simple.PreDecrement name) rest = record { form_is = refl; not_local = refl; not_semicolon = refl; not_close = refl; statement_is = refl; goes_on = refl; not_else = refl }
+simple_begins (simple.Call true call) rest = record { form_is = refl; not_local = refl; not_semicolon = refl; not_close = refl; statement_is = refl; goes_on = refl; not_else = refl }
+simple_begins (simple.Call false call) rest = call_begins call rest

@@ -1,0 +1,142 @@
+//! Which statement the first tokens begin.
+
+ghost use Rattle.std.specs.Prelude.{◌≡◌};
+ghost use Rattle.java_parser.specs.Words.{kinds};
+ghost use Rattle.java_parser.specs.Forms as spec;
+
+use java_tree::{AssignOp, Kind, Reserved, Symbol, Token};
+
+/// Which of the statements that are expressions it is.
+#[derive(Clone, Copy)]
+pub(crate) enum SimpleForm {
+    Assign(AssignOp),
+    PostIncrement,
+    PostDecrement,
+    PreIncrement,
+    PreDecrement,
+    GlobalCall,
+    Call,
+}
+
+/// Which statement it is.
+#[derive(Clone, Copy)]
+pub(crate) enum StatementForm {
+    Block,
+    Empty,
+    If,
+    While,
+    For,
+    Break,
+    Continue,
+    Return,
+    Simple,
+}
+
+fn form_before(symbol: Symbol) -> SimpleForm
+    ensures { result ≡ spec.form_before symbol }
+{
+    match symbol {
+        Symbol::PlusPlus => SimpleForm::PreIncrement,
+        Symbol::MinusMinus => SimpleForm::PreDecrement,
+        Symbol::At => SimpleForm::GlobalCall,
+        _ => SimpleForm::Call,
+    }
+}
+
+fn form_behind(symbol: Symbol) -> SimpleForm
+    ensures { result ≡ spec.form_behind symbol }
+{
+    match symbol {
+        Symbol::PlusPlus => SimpleForm::PostIncrement,
+        Symbol::MinusMinus => SimpleForm::PostDecrement,
+        Symbol::Assign => SimpleForm::Assign(AssignOp::Assign),
+        Symbol::PlusAssign => SimpleForm::Assign(AssignOp::Add),
+        Symbol::MinusAssign => SimpleForm::Assign(AssignOp::Sub),
+        Symbol::StarAssign => SimpleForm::Assign(AssignOp::Mul),
+        Symbol::SlashAssign => SimpleForm::Assign(AssignOp::Div),
+        Symbol::PercentAssign => SimpleForm::Assign(AssignOp::Rem),
+        Symbol::AmpersandAssign => SimpleForm::Assign(AssignOp::And),
+        Symbol::BarAssign => SimpleForm::Assign(AssignOp::Or),
+        Symbol::CaretAssign => SimpleForm::Assign(AssignOp::Xor),
+        Symbol::ShiftLeftAssign => SimpleForm::Assign(AssignOp::Shl),
+        Symbol::ShiftRightAssign => SimpleForm::Assign(AssignOp::Shr),
+        Symbol::ShiftRightUnsignedAssign => SimpleForm::Assign(AssignOp::UShr),
+        _ => SimpleForm::Call,
+    }
+}
+
+/// The form of the statement that the tokens begin, if it is an expression.
+#[tactic(auto, unfolding(crate::specs::Forms::simple_form))]
+pub(crate) fn simple_form(tokens: &[Token]) -> SimpleForm
+    ensures { result ≡ spec.simple_form (kinds tokens.now) }
+{
+    match tokens {
+        [
+            Token {
+                kind: Kind::Symbol(symbol),
+                ..
+            },
+            ..
+        ] => form_before(*symbol),
+        [
+            Token {
+                kind: Kind::Identifier(_),
+                ..
+            },
+            Token {
+                kind: Kind::Symbol(symbol),
+                ..
+            },
+            ..
+        ] => form_behind(*symbol),
+        _ => SimpleForm::Call,
+    }
+}
+
+fn word_form(word: Reserved) -> StatementForm
+    ensures { result ≡ spec.word_form word }
+{
+    match word {
+        Reserved::If => StatementForm::If,
+        Reserved::While => StatementForm::While,
+        Reserved::For => StatementForm::For,
+        Reserved::Break => StatementForm::Break,
+        Reserved::Continue => StatementForm::Continue,
+        Reserved::Return => StatementForm::Return,
+        _ => StatementForm::Simple,
+    }
+}
+
+fn symbol_form(symbol: Symbol) -> StatementForm
+    ensures { result ≡ spec.symbol_form symbol }
+{
+    match symbol {
+        Symbol::OpenBrace => StatementForm::Block,
+        Symbol::Semicolon => StatementForm::Empty,
+        _ => StatementForm::Simple,
+    }
+}
+
+/// The form of the statement that the tokens begin.
+#[tactic(auto, unfolding(crate::specs::Forms::statement_form))]
+pub(crate) fn statement_form(tokens: &[Token]) -> StatementForm
+    ensures { result ≡ spec.statement_form (kinds tokens.now) }
+{
+    match tokens {
+        [
+            Token {
+                kind: Kind::Reserved(word),
+                ..
+            },
+            ..
+        ] => word_form(*word),
+        [
+            Token {
+                kind: Kind::Symbol(symbol),
+                ..
+            },
+            ..
+        ] => symbol_form(*symbol),
+        _ => StatementForm::Simple,
+    }
+}

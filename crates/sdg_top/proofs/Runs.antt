@@ -1,0 +1,157 @@
+-- What a run needs: its numbers are in their ranges, its schedule's ports are the graph's, and step numbers are enough.
+use Rattle.std.proofs.Common.{◌≡◌, ℕ, ◌+◌, ◌*◌, ◌-◌, ◌^◌, ◌<◌, ◌≤◌, List, [], ◌∷◌, ◌++◌, length, map, refl, ap, sym, subst, ◌∙◌, arith, append_assoc}
+use Rattle.std.specs.List.{AllByRecursion, filter_map, flat_map}
+use Rattle.std.specs.Prelude.{min, slice_get, Result, Ok, Err, OnOk}
+use Rattle.std.proofs.lemmas.List.{length-map}
+use Rattle.sdg_base.specs.declared.call.Call.{Call}
+use Rattle.sdg_base.specs.declared.item.Line.{Line}
+use Rattle.sdg_base.specs.declared.item.Line.TheVariants as line
+use Rattle.sdg_base.specs.declared.item.Note.{Note}
+use Rattle.sdg_base.specs.declared.item.Note.TheVariants as note
+use Rattle.sdg_base.specs.declared.port.Port.{Port}
+use Rattle.sdg_base.specs.declared.port.Port.TheVariants as port
+use Rattle.placement.specs.declared.event.Header.{Header}
+use Rattle.placement.specs.declared.event.Event.{Event}
+use Rattle.placement.specs.declared.event.Schedule.{Schedule}
+use Rattle.placement.specs.declared.event.Event.TheVariants as event
+use Rattle.placement.specs.declared.event.Word.{Word}
+use Rattle.early_forms.specs.declared.straight.StraightClass.{StraightClass}
+use Rattle.early_forms.specs.Names.{IsProper}
+use Rattle.early_forms.specs.Trees.{class_tree}
+use Rattle.early_cutter.specs.Lowering.{table_field}
+use Rattle.early_cutter.specs.Cutting.{graph_of}
+use Rattle.early_cutter.specs.Agrees.{CallFits}
+use Rattle.early_cutter.specs.Runs.{EveryCallIsSafe, EveryRunAgrees, SerialRunsArePlain, PlainRunsInTurn, OrderedRunsArePlain, setup_of}
+use Rattle.run_text.specs.Schedules as schedule
+use Rattle.run_text.specs.Schedules.{IsInRange, Fits}
+use Rattle.cluster.specs.History.{Setup, Happening, Took, IsCell, call_of, shown, shown_entry, steps_of}
+use Rattle.cluster.specs.World.{World, event_of, first_world, words_of, world_of, results_of, kept}
+use Rattle.cluster.specs.Standing as standing
+use Rattle.cluster.specs.Standing.{IsReady, NamesPorts, past}
+use Rattle.cluster.specs.declared.past.Past.{Past}
+use Rattle.agreement.specs.Results.{IsForCell, AreEnoughSteps}
+use Rattle.sdg_top.specs.Accepted.{plain_header, IsReport, IsPlainReport}
+use Rattle.sdg_top.specs.Report.{report_text}
+use Rattle.sdg_top.proofs.Members.{fields-class_tree}
+
+as_many_fields : (class : StraightClass) → length (graph_of class).fields ≡ length class.fields
+as_many_fields class = length-map class.fields table_field
+
+-- a run can be made of the calls of a class
+pub ready : (class : StraightClass) (calls : List Call) (header : Header) → EveryCallIsSafe → IsProper class → AllByRecursion (CallFits class) calls → length calls ≤ 65536 → IsInRange header
+    → IsReady (setup_of class calls header)
+ready class calls header safe proper fit few range = record {
+  some_slots = let one = range.one_slot in omega (arith, one);
+  most_slots = let one = range.one_slot in omega (arith, one);
+  most_calls = few;
+  most_fields = let two = proper.size.few_fields in let same = as_many_fields class in omega (arith, two, same);
+  safe = safe class calls header.slots proper fit;
+}
+
+-- ---- the ports of events
+
+cell_named : (class : StraightClass) (header : Header) (p : Port) → schedule.IsCellOf (length class.fields) header.slots p → standing.IsCellOf (graph_of class) header p
+cell_named class header port.Caller is = absurd is
+cell_named class header port.Sink is = absurd is
+cell_named class header port.Front is = tt
+cell_named class header port.Join is = tt
+cell_named class header (port.Slot field at) is = (subst (λ (n : ℕ). field < n) (sym (as_many_fields class)) is.0, is.1)
+cell_named class header (port.Inst field at) is = absurd is
+
+sender_named : (class : StraightClass) (header : Header) (p : Port) → schedule.IsSenderOf (length class.fields) header.slots p → standing.IsSenderOf (graph_of class) header p
+sender_named class header port.Caller is = tt
+sender_named class header port.Sink is = absurd is
+sender_named class header port.Front is = tt
+sender_named class header port.Join is = tt
+sender_named class header (port.Slot field at) is = cell_named class header (port.Slot field at) is
+sender_named class header (port.Inst field at) is = absurd is
+
+event_named : (class : StraightClass) (header : Header) (e : Event) → Fits (length class.fields) header.slots e → NamesPorts (graph_of class) header e
+event_named class header (event.Take to from pick) fits = (cell_named class header to fits.0, sender_named class header from fits.1)
+event_named class header (event.Sink from) fits = cell_named class header from fits
+
+-- the events name ports of the graph
+pub all_named : (class : StraightClass) (header : Header) (events : List Event) → AllByRecursion (Fits (length class.fields) header.slots) events → AllByRecursion (NamesPorts (graph_of class) header) events
+all_named class header [] fits = tt
+all_named class header (e ∷ events) fits = (event_named class header e fits.0, all_named class header events fits.1)
+
+is_cell : (fields slots : ℕ) (p : Port) → schedule.IsCellOf fields slots p → IsCell p
+is_cell fields slots port.Caller is = absurd is
+is_cell fields slots port.Sink is = absurd is
+is_cell fields slots port.Front is = tt
+is_cell fields slots port.Join is = tt
+is_cell fields slots (port.Slot field at) is = tt
+is_cell fields slots (port.Inst field at) is = absurd is
+
+for_cell : (fields slots : ℕ) (e : Event) → Fits fields slots e → IsForCell e
+for_cell fields slots (event.Take to from pick) fits = is_cell fields slots to fits.0
+for_cell fields slots (event.Sink from) fits = tt
+
+-- their receivers are cells
+pub all_for_cells : (fields slots : ℕ) (events : List Event) → AllByRecursion (Fits fields slots) events → AllByRecursion IsForCell events
+all_for_cells fields slots [] fits = tt
+all_for_cells fields slots (e ∷ events) fits = (for_cell fields slots e fits.0, all_for_cells fields slots events fits.1)
+
+-- ---- the words of events
+
+-- one word more is that of the next event
+pub word_more : (s : Setup) (now : World) (e : Event) (ws more : List Word) (word : Word) (rest : List Event) → more ≡ ws ++ word ∷ [] → word ≡ (event_of s now e).1
+    → more ++ words_of s (event_of s now e).0 rest ≡ ws ++ words_of s now (e ∷ rest)
+word_more s now e ws more word rest pushed is =
+    ap (λ all. all ++ words_of s (event_of s now e).0 rest) (pushed ∙ ap (λ x. ws ++ x ∷ []) is) ∙ append_assoc ws ((event_of s now e).1 ∷ []) (words_of s (event_of s now e).0 rest)
+
+-- ---- step numbers
+
+-- A million events and 65,536 calls leave most step numbers unused.
+pub enough_steps : (class : StraightClass) (calls : List Call) (header : Header) (events : List Event) → length calls ≤ 65536 → length events ≤ 1000000 → AreEnoughSteps (setup_of class calls header) events
+enough_steps class calls header events few few_events = omega (arith, few, few_events)
+
+-- ---- the history as it is printed
+
+-- an entry of the history is printed as the step that it shows
+shown_at : (p : Port) (call : ℕ) (place : Line) (what : Note) (pasts : List Past)
+    → filter_map (λ q. q.shown) (record { line = place; note = what; shown = slice_get (shown_entry p call) 0 } ∷ pasts) ≡ shown_entry p call ++ filter_map (λ q. q.shown) pasts
+shown_at port.Caller call place what pasts = refl
+shown_at port.Sink call place what pasts = refl
+shown_at port.Front call place what pasts = refl
+shown_at port.Join call place what pasts = refl
+shown_at (port.Slot field at) call place what pasts = refl
+shown_at (port.Inst field at) call place what pasts = refl
+
+pub printed_history : (hist : List Happening) → filter_map (λ q. q.shown) (map past hist) ≡ steps_of hist
+printed_history [] = refl
+printed_history (Took e ∷ hist) =
+    shown_at e.cell (call_of e.item) (line.Cell e.cell) (note.Take (record { from = e.from; seq = e.number; pick = e.pick; growths = e.growths; step = e.step })) (map past hist)
+    ∙ ap (λ rest. shown (Took e) ++ rest) (printed_history hist)
+
+-- ---- reports
+
+-- A text that is written of the world of the schedule is the report.
+pub reported : (class : StraightClass) (calls : List Call) (events : Schedule) (text : List ℕ)
+    → EveryRunAgrees → SerialRunsArePlain
+    → IsProper class → AllByRecursion (CallFits class) calls → length calls ≤ 65536 → IsInRange events.header
+    → AllByRecursion (Fits (length class.fields) events.header.slots) events.events → length events.events ≤ 1000000
+    → (let s = setup_of class calls events.header in
+    let w = world_of s events.events in
+    text ≡ report_text events.header class.fields (words_of s first_world events.events) [] (results_of s w) (steps_of w.hist) [] (min (kept s w) (2 ^ 64 - 1)))
+    → IsReport class calls events text
+reported class calls events text agree serial proper fit few range named few_events is =
+    let s = setup_of class calls events.header in
+    let w = world_of s events.events in
+    let agrees = agree class calls events.header events.events proper fit (let one = range.one_slot in omega (arith, one)) (all_for_cells _ _ events.events named) (enough_steps class calls events.header events.events few few_events) in
+    record {
+      agrees = agrees;
+      plain = λ in_turn. serial (class_tree class) s w agrees in_turn;
+      written = is ∙ ap (λ names. report_text events.header names (words_of s first_world events.events) [] (results_of s w) (steps_of w.hist) [] (min (kept s w) (2 ^ 64 - 1))) (sym (fields-class_tree class));
+    }
+
+-- Without events the results are those of plain Java in their order.
+pub plain_report : (class : StraightClass) (calls : List Call) → EveryRunAgrees → PlainRunsInTurn → OrderedRunsArePlain → IsProper class → AllByRecursion (CallFits class) calls → length calls ≤ 65536 → IsPlainReport class calls
+plain_report class calls agree in_turn ordered proper fit few =
+    let s = setup_of class calls plain_header in
+    let enough = enough_steps class calls plain_header [] few (omega arith) in
+    ordered (class_tree class) s (agree class calls plain_header [] proper fit (omega arith) tt enough) (in_turn class calls plain_header proper fit (omega arith) enough)
+
+pub on_ok : {A E : Type 0} {P : Type 0} (r : Result A E) → P → OnOk r P
+on_ok (Ok v) p = p
+on_ok (Err e) p = tt
