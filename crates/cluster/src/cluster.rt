@@ -6,11 +6,11 @@ ghost use Rattle.sdg_base.specs.declared.port.Port.{Port};
 ghost use Rattle.cluster.specs.History.{call_of, shown_entry, given_at_start};
 
 use crate::cells::{Cells, first_cells, place_of};
-use crate::items::{call_of, copy_item, copy_values, ended_of};
+use crate::items::{call_of, ended_of};
 use crate::offer::{Offer, lower_of};
 use crate::past::{Commits, Committed, Ended, Past, Pasts};
 use placement::{Event, Header, Word};
-use sdg_base::{Calls, Entry, Item, Line, Note, Port, Step};
+use sdg_base::{Calls, Entry, Item, Line, Note, Port, Step, copy_item, copy_values};
 use sqlite_items::Items;
 use std::alloc::{AllocError, Global};
 use task_code::Graph;
@@ -206,7 +206,8 @@ impl Cluster {
         }
     }
 
-    /// Runs to completion: the lowest call that has an item or a result goes next, until none has.
+    /// Runs to completion: the lowest call that has an item or a result goes next, until none has. No call
+    /// of a class needs more than 100,002 events, and a drain makes no more a call, whatever the graph.
     /// After an `Err` the cluster is spent.
     pub fn drain(&mut self, alloc: Global, graph: &Graph) -> Result<(), AllocError>
         requires { IsSound graph.now self.old }
@@ -367,7 +368,7 @@ fn start_of(alloc: Global, calls: &Calls, to: Port, taken: u64) -> Result<Option
             Some(call) => Ok(Some(Item::Start {
                 call: taken as u32 + 1,
                 method: call.method,
-                args: copy_values(alloc, &call.args)?,
+                args: copy_values(alloc, call.args.as_slice())?,
             })),
             None => Ok(None),
         },

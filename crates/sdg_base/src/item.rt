@@ -1,8 +1,11 @@
 //! Items, and the notes of the order in which cells take them.
 
+ghost use Rattle.std.specs.Prelude.{◌≡◌, IfOk};
+
 use crate::port::Port;
-use crate::val::{Outcome, Vals};
+use crate::val::{Outcome, Vals, copy_outcome, copy_values};
 use sqlite_items::Items;
+use std::alloc::{AllocError, Global};
 
 /// What one port sends to another for a call: its start, work on a keyed or local task, a visit of
 /// one instance, a part for the join, or its end. Calls count from 1, tasks from 0.
@@ -71,3 +74,63 @@ pub enum Note {
 
 /// Records in their order.
 pub type Notes = Items<Note>;
+
+/// The same item again.
+pub fn copy_item(alloc: Global, item: &Item) -> Result<Item, AllocError>
+    ensures { IfOk result (λ copy. copy ≡ item.now) }
+{
+    match item {
+        Item::Start { call, method, args } => Ok(Item::Start {
+            call: *call,
+            method: *method,
+            args: copy_values(alloc, args.as_slice())?,
+        }),
+        Item::Work {
+            call,
+            task,
+            key,
+            turns,
+            vars,
+        } => Ok(Item::Work {
+            call: *call,
+            task: *task,
+            key: *key,
+            turns: *turns,
+            vars: copy_values(alloc, vars.as_slice())?,
+        }),
+        Item::Visit {
+            call,
+            task,
+            width,
+            turns,
+            vars,
+        } => Ok(Item::Visit {
+            call: *call,
+            task: *task,
+            width: *width,
+            turns: *turns,
+            vars: copy_values(alloc, vars.as_slice())?,
+        }),
+        Item::Part {
+            call,
+            task,
+            width,
+            instance,
+            turns,
+            vars,
+            value,
+        } => Ok(Item::Part {
+            call: *call,
+            task: *task,
+            width: *width,
+            instance: *instance,
+            turns: *turns,
+            vars: copy_values(alloc, vars.as_slice())?,
+            value: copy_outcome(alloc, value)?,
+        }),
+        Item::Done { call, outcome } => Ok(Item::Done {
+            call: *call,
+            outcome: copy_outcome(alloc, outcome)?,
+        }),
+    }
+}

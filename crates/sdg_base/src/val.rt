@@ -66,3 +66,25 @@ pub fn copy_of(alloc: Global, value: &Val) -> Result<Val, AllocError>
         Val::Unit => Ok(Val::Unit),
     }
 }
+
+/// The same values again.
+pub fn copy_values(alloc: Global, values: &[Val]) -> Result<Vals, AllocError>
+    ensures { IfOk result (λ copy. copy ≡ values.now) }
+{
+    let mut copy = Items::new(alloc);
+    for value in values {
+        copy.push(copy_of(alloc, value)?)?;
+    }
+    Ok(copy)
+}
+
+/// The same outcome again.
+pub fn copy_outcome(alloc: Global, outcome: &Outcome) -> Result<Outcome, AllocError>
+    ensures { IfOk result (λ copy. copy ≡ outcome.now) }
+{
+    match outcome {
+        Outcome::Value(value) => Ok(Outcome::Value(copy_of(alloc, value)?)),
+        Outcome::Throws(exception) => Ok(Outcome::Throws(*exception)),
+        Outcome::Limit => Ok(Outcome::Limit),
+    }
+}

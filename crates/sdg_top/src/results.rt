@@ -4,19 +4,8 @@ ghost use Rattle.std.specs.Prelude.{◌≡◌, map, IfOk};
 ghost use Rattle.std.specs.List.{filter_map};
 
 use cluster::{Committed, Past};
-use sdg_base::{Outcome, Step, copy_of};
+use sdg_base::{Outcome, Step, copy_outcome};
 use std::alloc::{AllocError, Global};
-
-/// The same outcome again.
-fn copy_of_outcome(alloc: Global, outcome: &Outcome) -> Result<Outcome, AllocError>
-    ensures { IfOk result (λ copy. copy ≡ outcome.now) }
-{
-    match outcome {
-        Outcome::Value(value) => Ok(Outcome::Value(copy_of(alloc, value)?)),
-        Outcome::Throws(exception) => Ok(Outcome::Throws(*exception)),
-        Outcome::Limit => Ok(Outcome::Limit),
-    }
-}
 
 /// The results that were committed, in their order, beside the numbers of their calls.
 pub(crate) fn results_of(
@@ -27,7 +16,7 @@ pub(crate) fn results_of(
 {
     let mut results = Vec::new(alloc);
     for commit in commits {
-        let outcome = copy_of_outcome(alloc, &commit.shown.outcome)?;
+        let outcome = copy_outcome(alloc, &commit.shown.outcome)?;
         results.push((commit.shown.call, outcome))?;
     }
     Ok(results)

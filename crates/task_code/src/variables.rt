@@ -4,7 +4,7 @@ ghost use Rattle.std.specs.Prelude.{◌≡◌, ◌++◌, ◌-◌, IfOk, IsSome, 
 ghost use Rattle.task_code.specs.Machine.{carried, set_all, first_vars, carried_vars};
 
 use crate::graph::{GraphMethod, Task};
-use sdg_base::{Val, Vals, copy_of};
+use sdg_base::{Val, Vals, copy_of, copy_values};
 use sqlite_items::Items;
 use std::alloc::{AllocError, Global};
 
@@ -12,7 +12,7 @@ use std::alloc::{AllocError, Global};
 pub fn first_vars(alloc: Global, method: &GraphMethod, args: &[Val]) -> Result<Vals, AllocError>
     ensures { IfOk result (λ vars. vars ≡ first_vars method.now args.now) }
 {
-    let mut vars = copies(alloc, args)?;
+    let mut vars = copy_values(alloc, args)?;
     push_units(&mut vars, method.vars.len().saturating_sub(args.len()))?;
     Ok(vars)
 }
@@ -42,16 +42,6 @@ pub fn carried(alloc: Global, numbers: &[u32], vars: &[Val]) -> Result<Vals, All
         values.push(copy_of(alloc, &vars[*number as usize])?)?;
     }
     Ok(values)
-}
-
-fn copies(alloc: Global, values: &[Val]) -> Result<Vals, AllocError>
-    ensures { IfOk result (λ same. same ≡ values.now) }
-{
-    let mut same = Items::new(alloc);
-    for value in values {
-        same.push(copy_of(alloc, value)?)?;
-    }
-    Ok(same)
 }
 
 /// So many variables more with nothing in them.

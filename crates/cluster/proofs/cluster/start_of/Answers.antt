@@ -8,7 +8,7 @@ pub returns-in_ok-copy_values-in-Some : goal.returns-in_ok-copy_values-in-Some
 returns-in_ok-copy_values-in-Some c =
     let call : slice_get c.args.calls.now c.args.taken ≡ Some c.in-Some.call.now = sym c.get.ensures.value ∙ ap option_copied c.in-Some.is in
     let given = start_given c.args.calls.now c.args.to c.args.taken c.in-Some.call.now c.in-Front.is call in
-    let args : c.in_ok-copy_values-in-Some.field-0 ≡ c.in-Some.call.now.args = c.in_ok-copy_values-in-Some.ensures in
+    let args : c.in_ok-copy_values-in-Some.field-0 ≡ c.in-Some.call.now.args = c.in_ok-copy_values-in-Some.ensures ∙ c.as_slice.ensures in
     ap (λ vals. Some (item.Start (c.args.taken + 1) c.in-Some.call.now.method vals)) args ∙ sym given
 
 pub returns-in-None : goal.returns-in-None

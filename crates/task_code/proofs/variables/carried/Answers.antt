@@ -1,4 +1,4 @@
-use Rattle.std.proofs.Common.{◌≡◌, List, Some, refl, sym, ap, ◌∙◌, ◌+◌, drop, arith}
+use Rattle.std.proofs.Common.{List, Some, refl, sym, ap, ◌∙◌, ◌+◌, drop}
 use Rattle.std.proofs.lemmas.Option.{slice_get_read}
 use Rattle.sdg_base.specs.declared.val.Val.{Val}
 use Rattle.task_code.specs.Machine.{carried}

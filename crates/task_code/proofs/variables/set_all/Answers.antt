@@ -1,4 +1,4 @@
-use Rattle.std.proofs.Common.{◌≡◌, List, sym, ap, ◌∙◌, ◌+◌, drop, get_or, arith}
+use Rattle.std.proofs.Common.{sym, ap, ◌∙◌, get_or, arith}
 use Rattle.std.proofs.Math.ListN.{set}
 use Rattle.sdg_base.specs.declared.val.Val.{Val}
 use Rattle.task_code.specs.Machine.{set_all}

@@ -1,5 +1,5 @@
 use Rattle.std.proofs.Common.{◌≡◌, take}
-use Rattle.cluster.proofs.items.copy_values.Given as goal
+use Rattle.sdg_base.proofs.val.copy_values.Given as goal
 
 abbrev pub invariant-loop-value : goal.invariant-loop-value
 invariant-loop-value l = l.copy ≡ take l.value-index l.values
