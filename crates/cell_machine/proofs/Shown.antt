@@ -1,5 +1,5 @@
 -- What a cell shows after it sent an item, took one, or keeps fewer.
-use Rattle.std.proofs.Common.{◌≡◌, ◌≢◌, ℕ, ◌+◌, ◌-◌, ◌≤◌, Bool, true, false, cond, min, List, [], ◌∷◌, ◌++◌, length, drop, Option, Some, refl, sym, ap, subst, ◌∙◌, arith, inl, inr}
+use Rattle.std.proofs.Common.{◌≡◌, ◌≢◌, ℕ, ◌+◌, ◌-◌, Bool, true, false, cond, min, List, [], ◌∷◌, ◌++◌, length, drop, Some, refl, sym, ap, subst, ◌∙◌, arith, inl, inr}
 use Rattle.std.proofs.lemmas.Bool.{cases_Bool}
 use Rattle.std.proofs.lemmas.List.{append-nil, length-drop, length_push, drop_min, drop-drop, drop-append-le}
 use Rattle.sdg_base.specs.declared.port.Port.{Port}
@@ -14,7 +14,7 @@ use Rattle.channels.specs.Outboxes.{outbox_of, SameButAt}
 use Rattle.channels.specs.Marks.{mark_of}
 use Rattle.state_classes.specs.States.{State}
 use Rattle.task_code.specs.declared.graph.Graph.{Graph}
-use Rattle.task_code.specs.Machine.{Ran, Runs, runs}
+use Rattle.task_code.specs.Machine.{Runs, runs}
 use Rattle.task_code.specs.Progress.{Taken, Progress, progress_with, progress_after, ran_or_nothing, outputs_to}
 use Rattle.cell_machine.specs.declared.cell.Cell.{Cell}
 use Rattle.cell_machine.specs.Held.{state_held}

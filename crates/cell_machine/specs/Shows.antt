@@ -1,7 +1,6 @@
 -- When a cell of the program is a cell that has come so far.
-use Rattle.std.specs.Prelude.{◌≡◌, ℕ, ◌-◌, length, drop}
+use Rattle.std.specs.Prelude.{◌≡◌, length, drop}
 use Rattle.sdg_base.specs.declared.port.Port.{Port}
-use Rattle.channels.specs.declared.outbox.Outbox.{Outbox}
 use Rattle.channels.specs.Marks.{mark_of}
 use Rattle.channels.specs.Outboxes.{outbox_of}
 use Rattle.channels.specs.Sent.{trimmed}

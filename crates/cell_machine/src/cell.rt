@@ -5,7 +5,7 @@ ghost use Rattle.std.specs.Option.{option_copied};
 ghost use Rattle.sdg_base.specs.declared.port.Port.{Port};
 ghost use Rattle.channels.specs.Marks.{mark_of};
 ghost use Rattle.channels.specs.Outboxes.{outbox_of, SameButAt};
-ghost use Rattle.channels.specs.Sent.{trimmed};
+ghost use Rattle.channels.specs.Sent.{item_of, trimmed};
 ghost use Rattle.task_code.specs.Machine.{runs};
 ghost use Rattle.task_code.specs.Progress.{Taken, Progress, progress_after, first_progress};
 ghost use Rattle.cell_machine.specs.Held.{state_held};
@@ -74,7 +74,8 @@ impl Cell {
 
     /// The item of a number, from 1, that the cell sent to a port, where it is kept.
     pub fn peek(&self, to: Port, seq: u64) -> Option<&Item>
-        ensures { (p : Progress) → Shows self.now p → trimmed (outbox_of self.now.outboxes to) < seq → option_copied result ≡ slice_get (p.gave to) (seq - 1) }
+        ensures kept { option_copied result ≡ item_of (outbox_of self.now.outboxes to) seq }
+        ensures given { (p : Progress) → Shows self.now p → trimmed (outbox_of self.now.outboxes to) < seq → option_copied result ≡ slice_get (p.gave to) (seq - 1) }
     {
         self.outboxes.peek(to, seq)
     }

@@ -20,6 +20,11 @@ abbrev pub outputs_of : Out → List (Port × Item)
 outputs_of (out.Send to x) = (to, x) ∷ []
 outputs_of (out.Result x) = (port.Sink, x) ∷ []
 
+-- What is sent is for a cell: only a result is for the sink.
+abbrev pub IsAddressed : Out → Type 0
+IsAddressed (out.Send port.Sink x) = ⊥
+IsAddressed o = Unit {0}
+
 -- what a run that gave this comes to
 abbrev pub ran : Out → State → Runs
 ran o state = Some (record { outputs = outputs_of o; state = state })
@@ -28,6 +33,11 @@ ran o state = Some (record { outputs = outputs_of o; state = state })
 abbrev pub leads : Rest → Step → Rest
 leads next step.Next stack vars turns state = next stack vars turns state
 leads next (step.End o) stack vars turns state = ran o state
+
+-- where it ends the task, as it should
+abbrev pub EndsAddressed : Step → Type 0
+EndsAddressed step.Next = Unit {0}
+EndsAddressed (step.End o) = IsAddressed o
 
 -- An instruction may run where it gives something before some rest.
 abbrev pub CanPerform : Setting → Instr → List Val → List Val → ℕ → State → Type 0

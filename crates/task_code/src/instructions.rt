@@ -4,7 +4,7 @@ ghost use Rattle.std.specs.Prelude.{◌≡◌, ℕ, ◌∷◌, ◌<◌, IfOk, Is
 ghost use Rattle.sdg_base.specs.declared.val.Val.{Val};
 ghost use Rattle.state_classes.specs.States.{State, arity};
 ghost use Rattle.task_code.specs.Machine.{Setting, Rest, operated, casted, key_value, arguments, accessed, pushed_result, cut_to};
-ghost use Rattle.task_code.specs.Steps.{Pushes, Operates, Casts, Stores, CanOperate, CanCast, CanStore, CanAccess, leads, ran};
+ghost use Rattle.task_code.specs.Steps.{Pushes, Operates, Casts, Stores, CanOperate, CanCast, CanStore, CanAccess, EndsAddressed, IsAddressed, leads, ran};
 
 use crate::context::Context;
 use crate::out::Out;
@@ -42,10 +42,7 @@ pub fn store(variable: u32, stack: &mut Stack, vars: &mut Vals)
     requires { CanStore variable stack.old vars.old }
     ensures { Stores variable stack.old vars.old stack.new vars.new }
 {
-    match stack.pop() {
-        Some(value) => vars.set(variable as usize, value),
-        None => unreachable!(),
-    }
+    vars.set(variable as usize, stack.pop());
 }
 
 fn operated(op: BinOp, num: Num, left: &Val, right: &Val) -> Val
@@ -63,10 +60,9 @@ pub fn binary(op: BinOp, num: Num, stack: &mut Stack) -> Result<(), AllocError>
     requires { CanOperate op num stack.old }
     ensures { OnOk result (Operates op num stack.old stack.new) }
 {
-    match (stack.pop(), stack.pop()) {
-        (Some(right), Some(left)) => stack.push(operated(op, num, &left, &right)),
-        _ => unreachable!(),
-    }
+    let right = stack.pop();
+    let left = stack.pop();
+    stack.push(operated(op, num, &left, &right))
 }
 
 pub fn cast(num: Num, stack: &mut Stack) -> Result<(), AllocError>
@@ -74,7 +70,7 @@ pub fn cast(num: Num, stack: &mut Stack) -> Result<(), AllocError>
     ensures { OnOk result (Casts num stack.old stack.new) }
 {
     match (num, stack.pop()) {
-        (Num::Long, Some(Val::Int(n))) => stack.push(Val::Long(i64::from(n))),
+        (Num::Long, Val::Int(n)) => stack.push(Val::Long(i64::from(n))),
         _ => unreachable!(),
     }
 }
@@ -97,14 +93,10 @@ fn pop_arguments(alloc: Global, count: usize, stack: &mut Stack) -> Result<Vals,
     if count == 0 {
         return Ok(Items::new(alloc));
     }
-    match stack.pop() {
-        Some(value) => {
-            let mut args = pop_arguments(alloc, count - 1, stack)?;
-            args.push(value)?;
-            Ok(args)
-        }
-        None => unreachable!(),
-    }
+    let last = stack.pop();
+    let mut args = pop_arguments(alloc, count - 1, stack)?;
+    args.push(last)?;
+    Ok(args)
 }
 
 /// Calls a method of the field with arguments off the stack.
@@ -116,7 +108,8 @@ pub fn access<A: Access>(
     state: &mut A,
 ) -> Result<Step, AllocError>
     requires { CanAccess method stack.old (A.held state.old) }
-    ensures { IfOk result (λ step. (s : Setting) (next : Rest) (vars : List Val) (turns : ℕ) → s.call ≡ call
+    ensures addressed { IfOk result EndsAddressed }
+    ensures leads { IfOk result (λ step. (s : Setting) (next : Rest) (vars : List Val) (turns : ℕ) → s.call ≡ call
         → accessed s next method (arguments (arity method) stack.old) vars turns (A.held state.old)
         ≡ leads next step stack.new vars turns (A.held state.new)) }
 {
@@ -151,11 +144,12 @@ pub fn cut(
     vars: &Vals,
 ) -> Result<Out, AllocError>
     requires { (state : State) × IsSome (cut_to context.now task (slice_get context.now.graph.tasks task) stack.old vars.now turns state) }
-    ensures { IfOk result (λ out. (state : State) → cut_to context.now task (slice_get context.now.graph.tasks task) stack.old vars.now turns state ≡ ran out state) }
+    ensures addressed { IfOk result IsAddressed }
+    ensures ran { IfOk result (λ out. (state : State) → cut_to context.now task (slice_get context.now.graph.tasks task) stack.old vars.now turns state ≡ ran out state) }
 {
     let to = &context.graph().tasks.as_slice()[task as usize];
     match (to.field, stack.pop()) {
-        (Some(field), Some(Val::Long(key))) => {
+        (Some(field), Val::Long(key)) => {
             let port = Port::Slot {
                 field,
                 slot: slot_of(key, context.slots()),

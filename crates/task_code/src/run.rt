@@ -2,7 +2,7 @@
 
 ghost use Rattle.std.specs.Prelude.{◌≡◌, ◌≤◌, IfOk, IsSome, Some, drop, slice_get};
 ghost use Rattle.task_code.specs.Machine.{runs, run, run_task, start_method};
-ghost use Rattle.task_code.specs.Steps.{CanPerform, Performs, outputs_of, ran};
+ghost use Rattle.task_code.specs.Steps.{CanPerform, EndsAddressed, IsAddressed, Performs, outputs_of, ran};
 
 use crate::context::Context;
 use crate::graph::{Graph, Instr};
@@ -33,65 +33,40 @@ fn perform<A: Access>(
     state: &mut A,
 ) -> Result<Step, AllocError>
     requires { CanPerform context.now instr.now frame.old.stack frame.old.vars frame.old.turns (A.held state.old) }
-    ensures { IfOk result (Performs context.now instr.now frame.old.stack frame.old.vars frame.old.turns (A.held state.old) frame.new.stack frame.new.vars frame.new.turns (A.held state.new)) }
+    ensures step { IfOk result (Performs context.now instr.now frame.old.stack frame.old.vars frame.old.turns (A.held state.old) frame.new.stack frame.new.vars frame.new.turns (A.held state.new)) }
+    ensures addressed { IfOk result EndsAddressed }
 {
     match instr {
-        Instr::Int(n) => {
-            frame.stack.push(Val::Int(*n))?;
-            Ok(Step::Next)
-        }
-        Instr::Load(variable) => {
-            load(alloc, *variable, &frame.vars, &mut frame.stack)?;
-            Ok(Step::Next)
-        }
-        Instr::Store(variable) => {
-            store(*variable, &mut frame.stack, &mut frame.vars);
-            Ok(Step::Next)
-        }
-        Instr::Pop => match frame.stack.pop() {
-            Some(_) => Ok(Step::Next),
-            None => unreachable!(),
-        },
-        Instr::Bin(op, num) => {
-            binary(*op, *num, &mut frame.stack)?;
-            Ok(Step::Next)
-        }
-        Instr::Cast(num) => {
-            cast(*num, &mut frame.stack)?;
-            Ok(Step::Next)
-        }
+        Instr::Int(n) => frame.stack.push(Val::Int(*n))?,
+        Instr::Load(variable) => load(alloc, *variable, &frame.vars, &mut frame.stack)?,
+        Instr::Store(variable) => store(*variable, &mut frame.stack, &mut frame.vars),
+        Instr::Pop => drop(frame.stack.pop()),
+        Instr::Bin(op, num) => binary(*op, *num, &mut frame.stack)?,
+        Instr::Cast(num) => cast(*num, &mut frame.stack)?,
         Instr::Turn => {
             if frame.turns == 0 {
                 return Ok(Step::End(ended(context.call(), Outcome::Limit)));
             }
             frame.turns -= 1;
-            Ok(Step::Next)
         }
-        Instr::Key => {
-            push_key(context.key(), &mut frame.stack)?;
-            Ok(Step::Next)
-        }
+        Instr::Key => push_key(context.key(), &mut frame.stack)?,
         Instr::Access(_, method) => {
-            let step = access(alloc, context.call(), *method, &mut frame.stack, state)?;
-            Ok(step)
+            return access(alloc, context.call(), *method, &mut frame.stack, state);
         }
         Instr::Cut(task) => {
-            let out = cut(
-                alloc,
-                context,
-                *task,
-                frame.turns,
-                &mut frame.stack,
-                &frame.vars,
-            )?;
-            Ok(Step::End(out))
+            let Frame { stack, vars, turns } = frame;
+            let out = cut(alloc, context, *task, *turns, stack, vars)?;
+            return Ok(Step::End(out));
         }
-        Instr::Return => match frame.stack.pop() {
-            Some(value) => Ok(Step::End(ended(context.call(), Outcome::Value(value)))),
-            None => unreachable!(),
-        },
-        Instr::ReturnVoid => Ok(Step::End(ended(context.call(), Outcome::Value(Val::Unit)))),
+        Instr::Return => {
+            let value = frame.stack.pop();
+            return Ok(Step::End(ended(context.call(), Outcome::Value(value))));
+        }
+        Instr::ReturnVoid => {
+            return Ok(Step::End(ended(context.call(), Outcome::Value(Val::Unit))));
+        }
     }
+    Ok(Step::Next)
 }
 
 /// Runs the instructions from an index on.
@@ -104,7 +79,8 @@ fn run<A: Access>(
     state: &mut A,
 ) -> Result<Out, AllocError>
     requires { IsSome (run context.now (drop start code.now) frame.old.stack frame.old.vars frame.old.turns (A.held state.old)) }
-    ensures { IfOk result (λ out. run context.now (drop start code.now) frame.old.stack frame.old.vars frame.old.turns (A.held state.old) ≡ ran out (A.held state.new)) }
+    ensures ran { IfOk result (λ out. run context.now (drop start code.now) frame.old.stack frame.old.vars frame.old.turns (A.held state.old) ≡ ran out (A.held state.new)) }
+    ensures addressed { IfOk result IsAddressed }
 {
     let mut at = start;
     while at < code.len() {
@@ -125,7 +101,8 @@ fn start_call<A: Access>(
     state: &mut A,
 ) -> Result<Out, AllocError>
     requires { IsSome (start_method context.now args.now (A.held state.old) (slice_get context.now.graph.methods method)) }
-    ensures { IfOk result (λ out. start_method context.now args.now (A.held state.old) (slice_get context.now.graph.methods method) ≡ ran out (A.held state.new)) }
+    ensures ran { IfOk result (λ out. start_method context.now args.now (A.held state.old) (slice_get context.now.graph.methods method) ≡ ran out (A.held state.new)) }
+    ensures addressed { IfOk result IsAddressed }
 {
     let method = &context.graph().methods.as_slice()[usize::from(method)];
     let mut frame = Frame {
@@ -146,7 +123,8 @@ fn do_work<A: Access>(
     state: &mut A,
 ) -> Result<Out, AllocError>
     requires { IsSome (run_task context.now turns vars.now (A.held state.old) (slice_get context.now.graph.tasks task)) }
-    ensures { IfOk result (λ out. run_task context.now turns vars.now (A.held state.old) (slice_get context.now.graph.tasks task) ≡ ran out (A.held state.new)) }
+    ensures ran { IfOk result (λ out. run_task context.now turns vars.now (A.held state.old) (slice_get context.now.graph.tasks task) ≡ ran out (A.held state.new)) }
+    ensures addressed { IfOk result IsAddressed }
 {
     let task = &context.graph().tasks.as_slice()[task as usize];
     let method = &context.graph().methods.as_slice()[usize::from(task.method)];
@@ -179,7 +157,8 @@ pub fn run_task<A: Access>(
     requires some { 1 ≤ slots }
     requires most { slots ≤ 64 }
     requires right { IsSome (runs graph.now slots port item.now (A.held state.old)) }
-    ensures { IfOk result (λ out. runs graph.now slots port item.now (A.held state.old) ≡ Some (record { outputs = outputs_of out; state = A.held state.new })) }
+    ensures ran { IfOk result (λ out. runs graph.now slots port item.now (A.held state.old) ≡ Some (record { outputs = outputs_of out; state = A.held state.new })) }
+    ensures addressed { IfOk result IsAddressed }
 {
     match (port, item) {
         (Port::Front, Item::Start { call, method, args }) => {

@@ -1,6 +1,6 @@
 //! The stack on which instructions work.
 
-ghost use Rattle.std.specs.Prelude.{◌≡◌, [], ◌∷◌, MatchOption, OnOk, OnErr};
+ghost use Rattle.std.specs.Prelude.{◌≡◌, ◌≢◌, [], ◌∷◌, OnOk, OnErr};
 
 use sdg_base::Val;
 use std::alloc::{AllocError, Global};
@@ -39,9 +39,14 @@ impl Stack {
         Ok(())
     }
 
-    pub fn pop(&mut self) -> Option<Val>
-        ensures { MatchOption result ((self.old ≡ []) × (self.new ≡ [])) (λ top. self.old ≡ top ∷ self.new) }
+    /// Takes the top value.
+    pub fn pop(&mut self) -> Val
+        requires { self.old ≢ [] }
+        ensures { self.old ≡ result ∷ self.new }
     {
-        self.values.pop()
+        match self.values.pop() {
+            Some(value) => value,
+            None => unreachable!(),
+        }
     }
 }

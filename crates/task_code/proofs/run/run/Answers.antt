@@ -1,9 +1,6 @@
-use Rattle.std.proofs.Common.{◌≡◌, drop}
-use Rattle.sdg_base.specs.declared.val.Val.{Val}
 use Rattle.task_code.specs.declared.graph.Instr.TheVariants as instr
 use Rattle.std.proofs.Common.{pos}
-use Rattle.task_code.specs.Machine.{run}
-use Rattle.task_code.proofs.Running.{run_can, run_leads, run_ends}
+use Rattle.task_code.proofs.Running.{run_can}
 use Rattle.task_code.proofs.run.run.Goals as goal
 
 pub perform-requires : goal.perform-requires
