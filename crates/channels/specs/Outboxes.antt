@@ -1,5 +1,5 @@
 -- Send buffers by the port that receives.
-use Rattle.std.specs.Prelude.{◌≡◌, ◌≢◌, Bool, List, []}
+use Rattle.std.specs.Prelude.{◌≢◌, Bool, List, []}
 use Rattle.std.specs.List.{find}
 use Rattle.std.specs.Option.{option_map_or}
 use Rattle.sdg_base.specs.declared.port.Port.{Port}

@@ -4,7 +4,6 @@ use Rattle.java_tree.specs.declared.tree.Expr.TheVariants as e
 use Rattle.java_tree.specs.declared.tree.Operation.{out-Operation}
 use Rattle.java_tree.specs.declared.tree.CallForm.{CallForm}
 use Rattle.java_tree.specs.declared.tree.Class.{Class}
-use Rattle.java_tree.specs.declared.tree.Member.{Member}
 use Rattle.early_forms.specs.declared.straight.Atom.{Atom}
 use Rattle.early_forms.specs.declared.straight.Atom.TheVariants.{Literal, Variable}
 use Rattle.early_forms.specs.declared.straight.Sum.{Sum}

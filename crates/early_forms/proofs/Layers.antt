@@ -1,5 +1,5 @@
 -- Parts of parts, through the layers of a tree.
-use Rattle.std.proofs.Common.{◌≡◌, ◌≢◌, refl, ℕ, List, [], ◌∷◌, Option, Some, None, false, codes, sym, ap, ◌∙◌}
+use Rattle.std.proofs.Common.{◌≡◌, ◌≢◌, ℕ, List, [], ◌∷◌, Option, Some, None, false, codes, sym, ap, ◌∙◌}
 use Rattle.java_tree.specs.declared.tree.Value.{Value, out-Value}
 use Rattle.java_tree.specs.declared.tree.CallForm.{CallForm, out-CallForm}
 use Rattle.java_tree.specs.declared.tree.CallForm.TheVariants as call

@@ -1,8 +1,7 @@
 -- The scope of a body, statement by statement.
-use Rattle.std.proofs.Common.{◌≡◌, ◌↔◌, refl, ℕ, zero, suc, ◌+◌, ◌<◌, ◌≤◌, List, [], ◌∷◌, ◌++◌, length, get_or, take, drop, sym, ap, ◌∙◌, arith, Contains, Bool, false, IsTrue, append_assoc}
-use Rattle.std.specs.List.{Any}
+use Rattle.std.proofs.Common.{◌≡◌, ◌↔◌, refl, ℕ, suc, ◌+◌, ◌<◌, List, [], ◌∷◌, ◌++◌, length, get_or, take, drop, sym, ap, ◌∙◌, arith, append_assoc}
 use Rattle.std.proofs.Math.Seq.{drop-cons}
-use Rattle.std.proofs.lemmas.List.{take_more, take_all, get_or_default, append-nil}
+use Rattle.std.proofs.lemmas.List.{take_more, append-nil}
 use Rattle.early_forms.specs.declared.straight.Statement.{Statement}
 use Rattle.early_forms.specs.declared.straight.Ending.{Ending}
 use Rattle.early_forms.specs.Names.{StatementIsKnown, BodyIsKnown, declared_names, locals}

@@ -5,9 +5,8 @@ use Rattle.java_tree.specs.declared.tree.Member.{Member}
 use Rattle.java_tree.specs.declared.tree.BlockItem.{BlockItem}
 use Rattle.early_forms.specs.declared.straight.Statement.{Statement}
 use Rattle.early_forms.specs.declared.straight.Ending.{Ending}
-use Rattle.early_forms.specs.declared.straight.StraightMethod.{StraightMethod}
 use Rattle.early_forms.specs.declared.straight.StraightClass.{StraightClass}
-use Rattle.early_forms.specs.Trees.{statement_tree, body_tree, table_member, method_member, class_tree}
+use Rattle.early_forms.specs.Trees.{statement_tree, body_tree, table_member, class_tree}
 
 -- the parts of which the tree is made, or None where it is made of none
 abbrev pub PartsOf : {P T : Type 0} → (P → T) → T → Option P → Type 0

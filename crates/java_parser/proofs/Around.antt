@@ -1,27 +1,23 @@
 -- Package, imports, modifiers, fields, types and parameters: what reading them takes, and that their tokens are read as them.
-use Rattle.std.proofs.Common.{◌≡◌, ℕ, zero, suc, Bool, true, false, not, List, [], ◌∷◌, ◌++◌, length, map, codes, Option, Some, None, Ok, Err, ◌⊎◌, inl, inr, if◌then◌else◌, refl, sym, ap, subst, ◌∙◌, append_assoc}
-use Rattle.std.proofs.lemmas.List.{append-nil}
+use Rattle.std.proofs.Common.{◌≡◌, ℕ, Bool, true, false, List, [], ◌∷◌, ◌++◌, map, codes, Option, Some, None, Ok, inl, inr, if◌then◌else◌, refl, sym, ap, ◌∙◌, append_assoc}
 use Rattle.std.proofs.lemmas.Option.{same_Some}
 use Rattle.std.specs.List.{flat_map}
 use Rattle.java_tree.specs.declared.token.Kind.{Kind}
 use Rattle.java_tree.specs.declared.token.Kind.TheVariants as k
 use Rattle.java_tree.specs.declared.token.Reserved.{Reserved}
 use Rattle.java_tree.specs.declared.token.Reserved.TheVariants as word
-use Rattle.java_tree.specs.declared.token.Symbol.TheVariants as symbol
 use Rattle.java_tree.specs.declared.tree.QualifiedName.{QualifiedName}
 use Rattle.java_tree.specs.declared.tree.Import.{Import}
 use Rattle.java_tree.specs.declared.tree.Modifier.{Modifier}
 use Rattle.java_tree.specs.declared.tree.Modifier.TheVariants as modifier
 use Rattle.java_tree.specs.declared.tree.FieldModifier.{FieldModifier}
 use Rattle.java_tree.specs.declared.tree.FieldModifier.TheVariants as field_modifier
-use Rattle.java_tree.specs.declared.tree.Field.{Field}
 use Rattle.java_tree.specs.declared.tree.TypeName.{TypeName}
 use Rattle.java_tree.specs.declared.tree.TypeName.TheVariants as type_name
-use Rattle.java_tree.specs.declared.tree.ResultType.{ResultType}
 use Rattle.java_tree.specs.declared.tree.ResultType.TheVariants as result_type
 use Rattle.java_tree.specs.declared.tree.Param.{Param}
 use Rattle.java_tree.specs.Tokens.{Kinds, separated, annotation, qualified, package_tokens, import_tokens, modifier_tokens, field_modifier_tokens, field_tokens, type_tokens, result_tokens, param_tokens}
-use Rattle.java_parser.specs.Words.{◌>>=◌, Fault, Reading, same_word, begins, after, name_at, many_at, all_at}
+use Rattle.java_parser.specs.Words.{same_word, begins, after, name_at}
 use Rattle.java_parser.specs.Members.{dot, star, at_sign, assign, comma, semicolon, open_paren, close_paren, open_bracket, close_bracket, behind, optional_at, dotted_at, has_dotted, names_at, qualified_at, package_at, import_at, imports_at, modifier_of, modifier_ahead, has_modifier, first_is, modifier_at, modifiers_at, annotated, is_named, annotation_at, access_of, access_ahead, has_field_modifier, field_modifier_at, field_modifiers_at, field_at, type_of, type_ahead, type_at, result_at, param_at, other_param_at, other_params_at, params_at}
 use Rattle.java_parser.proofs.Laws.{bind_ok, same_Ok, chosen, then_is, Takes, Again, Any, given, after_takes, after_again, are_words, both, begins_same, name_takes, name_again, many_takes, Begins, all_again, separated-map}
 

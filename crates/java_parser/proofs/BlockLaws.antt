@@ -1,42 +1,27 @@
 -- Blocks, where the statements in them are read as their tokens: what reading them takes, and that their tokens are read
 -- as them.
-use Rattle.std.proofs.Common.{◌≡◌, ℕ, zero, suc, max, ◌≤◌, ◌<◌, Bool, true, false, not, ◌&&◌, List, [], ◌∷◌, ◌++◌, length, map, Option, Some, None, Result, Ok, Err, ◌⊎◌, inl, inr, if◌then◌else◌, refl, sym, ap, subst, ◌∙◌, append_assoc, arith}
+use Rattle.std.proofs.Common.{◌≡◌, ℕ, ◌≤◌, Bool, true, false, ◌&&◌, List, [], ◌∷◌, ◌++◌, map, Ok, inl, inr, refl, sym, ap, subst, ◌∙◌, append_assoc, arith}
 use Rattle.std.specs.List.{flat_map}
-use Rattle.java_tree.specs.declared.token.Kind.{Kind}
 use Rattle.java_tree.specs.declared.token.Kind.TheVariants as k
-use Rattle.java_tree.specs.declared.token.Reserved.{Reserved}
 use Rattle.java_tree.specs.declared.token.Reserved.TheVariants as word
 use Rattle.java_tree.specs.declared.tree.Local.{Local}
 use Rattle.java_tree.specs.declared.tree.Simple.{Simple}
-use Rattle.java_tree.specs.declared.tree.ForInit.{ForInit}
-use Rattle.java_tree.specs.declared.tree.Expr.{Expr}
-use Rattle.java_tree.specs.declared.tree.Value.{Value}
 use Rattle.java_tree.specs.declared.tree.BlockItem.{BlockItem}
 use Rattle.java_tree.specs.declared.tree.BlockItem.TheVariants as item
 use Rattle.java_tree.specs.declared.tree.Stmt.{Stmt}
-use Rattle.java_tree.specs.declared.tree.Stmt.TheVariants as stmt
-use Rattle.java_tree.specs.Tokens.{Kinds, in_parentheses, in_braces, local_tokens, simple_tokens, expr_tokens, value_tokens, returned, item_step, statement_step, item_tokens}
-use Rattle.java_tree.specs.Placed.{Ending, all_of, is_placed_expr, is_placed_value, is_placed_option, item_placed, statement_ending, is_placed_item}
-use Rattle.java_tree.specs.Heights.{greatest, option_height, expr_height, value_height, item_layer_height, statement_layer_height, item_height}
-use Rattle.java_parser.specs.declared.forms.StatementForm.{StatementForm}
-use Rattle.java_parser.specs.declared.forms.StatementForm.TheVariants as form
-use Rattle.java_parser.specs.declared.headers.ForHeader.{ForHeader}
-use Rattle.java_parser.specs.Words.{◌>>=◌, Fault, Reading, same_word, begins, after, many_at, all_at}
-use Rattle.java_parser.specs.Members.{semicolon, open_paren, close_paren}
-use Rattle.java_parser.specs.Expressions.{expr_at, value_at}
-use Rattle.java_parser.specs.Forms.{statement_form}
-use Rattle.java_parser.specs.Simples.{local_ahead, local_at, simple_in}
-use Rattle.java_parser.specs.Headers.{header_at}
-use Rattle.java_parser.specs.Statements.{open_brace, close_brace, else_word, has_more, item_at, items_at, block_at, test_at, otherwise_at, if_at, while_at, for_at, after_jump, returned_at, return_at, simple_statement_at, statement_of, statement_at}
-use Rattle.java_parser.proofs.Laws.{bind_ok, same_Ok, chosen, then_is, Takes, Keeps, Again, Any, given, kept, after_takes, after_again, both, begins_same, many_takes, many_keeps, Begins, all_again}
-use Rattle.java_parser.proofs.ExpressionLaws.{expr_takes, expr_keeps, expr_again, value_takes, value_keeps, value_again, value_not_semicolon}
+use Rattle.java_tree.specs.Tokens.{Kinds, in_braces, local_tokens, simple_tokens, item_step, statement_step, item_tokens}
+use Rattle.java_tree.specs.Placed.{Ending, all_of, item_placed, statement_ending, is_placed_item}
+use Rattle.java_tree.specs.Heights.{greatest, item_layer_height, statement_layer_height, item_height}
+use Rattle.java_parser.specs.Words.{Reading, same_word, begins, after}
+use Rattle.java_parser.specs.Members.{semicolon}
+use Rattle.java_parser.specs.Simples.{local_ahead, local_at}
+use Rattle.java_parser.specs.Statements.{open_brace, close_brace, else_word, has_more, item_at, items_at, block_at}
+use Rattle.java_parser.proofs.Laws.{bind_ok, chosen, then_is, Takes, Keeps, Again, Any, given, kept, after_takes, after_again, both, many_takes, many_keeps, Begins, all_again}
 use Rattle.java_parser.proofs.StatementLayers.{of_item, of_statement, local_item, statement_item, EachStatement, statement_cases, item_cases}
 use Rattle.java_parser.proofs.StatementLayers as layers
-use Rattle.java_parser.proofs.Ends.{semicolon_ends, paren_ends}
-use Rattle.java_parser.proofs.LocalLaws.{ValueFits, local_takes, local_keeps, local_again, local_begins}
+use Rattle.java_parser.proofs.Ends.{semicolon_ends}
+use Rattle.java_parser.proofs.LocalLaws.{local_takes, local_keeps, local_again, local_begins}
 use Rattle.java_parser.proofs.SimpleHeads.{simple_begins}
-use Rattle.java_parser.proofs.SimpleLaws.{simple_is_high, simple_in_takes, simple_in_keeps, simple_in_again}
-use Rattle.java_parser.proofs.HeaderLaws.{HeaderFits, header_tokens, header_takes, header_keeps, header_again}
 
 abbrev pub statement_tokens : Stmt → Kinds
 statement_tokens = of_statement Kinds Kinds item_step statement_step

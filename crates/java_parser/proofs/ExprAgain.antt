@@ -1,5 +1,5 @@
 -- The tokens of an expression that is well placed and on no more than the levels are read as it, where it ends behind them.
-use Rattle.std.proofs.Common.{◌≡◌, ℕ, zero, suc, ◌+◌, ◌-◌, ◌<◌, ◌≤◌, max, Bool, true, false, cond, not, ◌&&◌, nat_eq, nat_lt, List, [], ◌∷◌, ◌++◌, length, map, codes, Option, Some, None, Result, Ok, Err, ◌⊎◌, inl, inr, if◌then◌else◌, refl, sym, ap, subst, ◌∙◌, append_assoc, arith}
+use Rattle.std.proofs.Common.{◌≡◌, ℕ, zero, suc, ◌+◌, ◌-◌, ◌<◌, ◌≤◌, max, Bool, true, false, not, ◌&&◌, nat_eq, nat_lt, List, [], ◌∷◌, ◌++◌, length, map, codes, Some, Result, Ok, Err, ◌⊎◌, inl, inr, refl, sym, ap, subst, ◌∙◌, append_assoc, arith}
 use Rattle.std.proofs.lemmas.List.{append-nil}
 use Rattle.std.proofs.lemmas.Bool.Decides.{Decides-ltb, Decides-eqb, nat_tests}
 use Rattle.std.specs.List.{flat_map}
@@ -8,10 +8,7 @@ use Rattle.sdg_base.specs.declared.operator.UnOp.{UnOp}
 use Rattle.sdg_base.specs.declared.operator.UnOp.TheVariants as un
 use Rattle.sdg_base.specs.declared.val.Num.{Num}
 use Rattle.sdg_base.specs.declared.val.Num.TheVariants as num
-use Rattle.java_tree.specs.declared.token.Kind.{Kind}
 use Rattle.java_tree.specs.declared.token.Kind.TheVariants as k
-use Rattle.java_tree.specs.declared.token.Reserved.TheVariants as word
-use Rattle.java_tree.specs.declared.token.Symbol.TheVariants as symbol
 use Rattle.java_tree.specs.declared.tree.Expr.{Expr, out-Expr, roll-Expr, roll-out-Expr}
 use Rattle.java_tree.specs.declared.tree.Expr.TheVariants as expr
 use Rattle.java_tree.specs.declared.tree.Operation.{Operation}
@@ -21,21 +18,21 @@ use Rattle.java_tree.specs.declared.tree.CallForm.TheVariants as call
 use Rattle.java_tree.specs.declared.tree.CallForm.TheOpen.{CallForm-F, Expr-F}
 use Rattle.java_tree.specs.declared.tree.CallForm.TheOpen as layer
 use Rattle.java_tree.specs.Levels.{operator_level}
-use Rattle.java_tree.specs.Tokens.{Kinds, global, in_parentheses, separated, operator_symbol, unary_symbol, number_type, expr_tokens, value_tokens, call_tokens}
+use Rattle.java_tree.specs.Tokens.{Kinds, global, separated, operator_symbol, expr_tokens, value_tokens, call_tokens}
 use Rattle.java_tree.specs.Placed.{standing_of, is_row}
 use Rattle.java_tree.specs.Heights.{expr_height, call_height}
 use Rattle.java_parser.specs.declared.operands.Opening.{Opening}
 use Rattle.java_parser.specs.declared.operands.Opening.TheVariants as opening
-use Rattle.java_parser.specs.Words.{◌>>=◌, Fault, Reading, refused, too_deep, same_word, begins, after, name_at, many_at, all_at}
-use Rattle.java_parser.specs.Members.{dot, at_sign, comma, open_paren, close_paren, open_bracket, close_bracket, optional_at}
-use Rattle.java_parser.specs.Expressions.{question, colon, operator_ahead, of_level, operator_at, number_type_ahead, opening_of, is_other, begins_expr, follows, tail, when_some, row, operation, valued, all_rows, value_in, other_value_in, other_values_in, values_in, args_in, of_in, own_in, member_in, of_member_in, index_in, named_in, called_in, cast_in, inner_in, paren_in, new_in, prefixed_in, operand_by, operand_in, row_from, row_in, conditional_in, looser_in, extended_in, read_in, read_at}
-use Rattle.java_parser.proofs.Laws.{bind_ok, chosen, then_is, Begins, after_again, begins_same, name_again, all_again, separated-map}
-use Rattle.java_parser.proofs.Around.{optional, optional_again}
+use Rattle.java_parser.specs.Words.{◌>>=◌, Fault, Reading, same_word, begins}
+use Rattle.java_parser.specs.Members.{dot, at_sign, comma, open_paren, close_paren, open_bracket, close_bracket}
+use Rattle.java_parser.specs.Expressions.{question, colon, operator_ahead, operator_at, number_type_ahead, opening_of, is_other, begins_expr, follows, tail, row, operation, valued, all_rows, value_in, other_value_in, other_values_in, values_in, args_in, of_in, own_in, member_in, of_member_in, index_in, named_in, called_in, cast_in, inner_in, paren_in, new_in, prefixed_in, operand_by, operand_in, row_from, row_in, conditional_in, looser_in, extended_in, read_in, read_at}
+use Rattle.java_parser.proofs.Laws.{bind_ok, then_is, Begins, after_again, begins_same, name_again, all_again, separated-map}
+use Rattle.java_parser.proofs.Around.{optional_again}
 use Rattle.java_parser.proofs.TreeHeights.{conditional_height, unary_height, cast_height, number_height, truth_height, paren_height, maker_height, name_height, index_height, member_height, called_height, own_height, of_height, of_member_height, row_more_height}
 use Rattle.java_parser.proofs.ExprTakes.{no_levels, not_below}
 use Rattle.java_parser.proofs.TreeTokens.{operation_tokens, args_tokens, conditional_tokens, binary_tokens, unary_tokens, cast_tokens, number_tokens, true_tokens, false_tokens, paren_tokens, maker_tokens, name_tokens, index_tokens, member_tokens, called_tokens, own_tokens, of_tokens, of_member_tokens, valued_tokens}
 use Rattle.java_parser.proofs.TreeStandings.{operation_standing_of, conditional_standing, binary_standing, unary_standing, cast_standing, number_standing, truth_standing, paren_standing, maker_standing, name_standing, index_standing, member_standing, called_standing}
-use Rattle.java_parser.proofs.Sound.{Sound, SoundValue, SoundValues, SoundCall, anyhow}
+use Rattle.java_parser.proofs.Sound.{Sound, SoundValue, SoundValues, SoundCall}
 use Rattle.java_parser.proofs.Follows.{Ends, ends, not_empty, tighter, no_operator_at, operator_found, op_of, right_of, operation_is, tokens_of_operation, standing_of_operation, level_within, in_row, row_follows, row_length, not_opened, no_type}
 use Rattle.java_parser.proofs.Splits.{in_paren, in_maker, in_index, in_unary, in_cast, in_called, in_conditional, in_own, in_of, in_of_member, expr_of, value_is, in_value, in_values, in_row_of, no_row, row_grows, row_within}
 

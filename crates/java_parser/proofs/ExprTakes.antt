@@ -1,12 +1,11 @@
 -- Reading an expression takes its tokens, and gives one that is well placed and on no more than the levels.
-use Rattle.std.proofs.Common.{◌≡◌, ℕ, zero, suc, ◌+◌, ◌-◌, ◌<◌, ◌≤◌, max, Bool, true, false, cond, not, ◌&&◌, nat_eq, nat_lt, List, [], ◌∷◌, ◌++◌, length, map, codes, Option, Some, None, Result, Ok, Err, ◌⊎◌, inl, inr, if◌then◌else◌, refl, sym, ap, subst, ◌∙◌, append_assoc, arith}
+use Rattle.std.proofs.Common.{◌≡◌, ℕ, zero, suc, ◌-◌, ◌≤◌, Bool, true, false, ◌&&◌, nat_eq, nat_lt, List, [], ◌∷◌, ◌++◌, length, map, codes, Option, Some, None, Ok, inl, inr, if◌then◌else◌, refl, sym, ap, subst, ◌∙◌, append_assoc, arith}
 use Rattle.std.proofs.lemmas.List.{append-nil}
-use Rattle.std.proofs.lemmas.Bool.Decides.{Decides-ltb, Decides-eqb, nat_tests}
+use Rattle.std.proofs.lemmas.Bool.Decides.{Decides-eqb, nat_tests}
 use Rattle.std.specs.List.{flat_map}
 use Rattle.sdg_base.specs.declared.operator.BinOp.{BinOp}
 use Rattle.sdg_base.specs.declared.operator.BinOp.TheVariants as bin
 use Rattle.sdg_base.specs.declared.operator.UnOp.{UnOp}
-use Rattle.sdg_base.specs.declared.operator.UnOp.TheVariants as un
 use Rattle.sdg_base.specs.declared.val.Num.{Num}
 use Rattle.sdg_base.specs.declared.val.Num.TheVariants as num
 use Rattle.java_tree.specs.declared.token.Kind.{Kind}
@@ -15,27 +14,26 @@ use Rattle.java_tree.specs.declared.token.Reserved.{Reserved}
 use Rattle.java_tree.specs.declared.token.Reserved.TheVariants as word
 use Rattle.java_tree.specs.declared.token.Symbol.{Symbol}
 use Rattle.java_tree.specs.declared.token.Symbol.TheVariants as symbol
-use Rattle.java_tree.specs.declared.tree.Expr.{Expr, out-Expr, roll-Expr}
+use Rattle.java_tree.specs.declared.tree.Expr.{Expr}
 use Rattle.java_tree.specs.declared.tree.Expr.TheVariants as expr
 use Rattle.java_tree.specs.declared.tree.Operation.{Operation}
 use Rattle.java_tree.specs.declared.tree.Value.{Value}
-use Rattle.java_tree.specs.declared.tree.CallForm.{CallForm}
 use Rattle.java_tree.specs.declared.tree.CallForm.TheVariants as call
 use Rattle.java_tree.specs.Levels.{operator_level}
-use Rattle.java_tree.specs.Tokens.{Kinds, global, in_parentheses, separated, operator_symbol, unary_symbol, number_type, expr_tokens, value_tokens, call_tokens}
-use Rattle.java_tree.specs.Placed.{standing_of, is_row}
+use Rattle.java_tree.specs.Tokens.{Kinds, global, separated, operator_symbol, unary_symbol, number_type, expr_tokens, value_tokens}
+use Rattle.java_tree.specs.Placed.{is_row}
 use Rattle.java_tree.specs.Heights.{expr_height}
 use Rattle.java_parser.specs.declared.operands.Opening.{Opening}
 use Rattle.java_parser.specs.declared.operands.Opening.TheVariants as opening
-use Rattle.java_parser.specs.Words.{◌>>=◌, Fault, Reading, refused, too_deep, begins, after, name_at, many_at, all_at}
+use Rattle.java_parser.specs.Words.{◌>>=◌, Reading, refused, too_deep, begins, after, name_at}
 use Rattle.java_parser.specs.Members.{dot, at_sign, comma, open_paren, close_paren, open_bracket, close_bracket, optional_at}
-use Rattle.java_parser.specs.Expressions.{question, colon, binary_of, operator_ahead, of_level, operator_at, number_type_of, number_type_ahead, opening_word, opening_symbol, opening_of, begins_expr, tail, when_some, row, operation, valued, all_rows, value_in, other_value_in, other_values_in, values_in, args_in, of_in, own_in, member_in, of_member_in, index_in, named_in, called_in, cast_in, inner_in, paren_in, new_in, prefixed_in, operand_by, operand_in, row_from, row_in, conditional_in, looser_in, extended_in, read_in, read_at, expr_at, value_at, args_at, call_of, call_at}
-use Rattle.java_parser.proofs.Laws.{both, bind_ok, same_Ok, chosen, given, kept, Takes, Keeps, word_is, after_takes, name_takes, many_takes, many_keeps, separated-map}
+use Rattle.java_parser.specs.Expressions.{question, colon, binary_of, operator_ahead, of_level, operator_at, number_type_of, number_type_ahead, opening_word, opening_symbol, opening_of, begins_expr, tail, when_some, row, operation, valued, all_rows, value_in, other_value_in, other_values_in, values_in, args_in, of_in, own_in, member_in, of_member_in, index_in, named_in, called_in, cast_in, inner_in, paren_in, new_in, prefixed_in, operand_by, operand_in, row_from, row_in, conditional_in, looser_in, extended_in, read_in, read_at, expr_at, value_at, args_at}
+use Rattle.java_parser.proofs.Laws.{both, bind_ok, same_Ok, chosen, Takes, Keeps, word_is, after_takes, name_takes, many_takes, many_keeps, separated-map}
 use Rattle.java_parser.proofs.Around.{optional, optional_takes}
 use Rattle.java_parser.proofs.TreeHeights.{row_more_height}
 use Rattle.java_parser.proofs.TreeTokens.{operation_tokens, args_tokens, conditional_tokens, binary_tokens, unary_tokens, cast_tokens, number_tokens, true_tokens, false_tokens, paren_tokens, maker_tokens, name_tokens, index_tokens, member_tokens, called_tokens, own_tokens, of_tokens, of_member_tokens, operated_tokens, valued_tokens}
 use Rattle.java_parser.proofs.TreeStandings.{operation_standing_of}
-use Rattle.java_parser.proofs.Sound.{Sound, SoundValue, SoundValues, SoundCall, looser, anyhow, and_true, sound_number, sound_truth, sound_name, sound_member, sound_paren, sound_maker, sound_index, sound_unary, sound_cast, sound_called, sound_own, sound_of, sound_of_member, sound_conditional, sound_valued, sound_none, sound_more, sound_operation, sound_row}
+use Rattle.java_parser.proofs.Sound.{Sound, SoundValue, SoundValues, looser, and_true, sound_number, sound_truth, sound_name, sound_member, sound_paren, sound_maker, sound_index, sound_unary, sound_cast, sound_called, sound_own, sound_of, sound_of_member, sound_conditional, sound_valued, sound_none, sound_more, sound_operation, sound_row}
 
 -- ---- what the first tokens say
 

@@ -1,7 +1,6 @@
 -- Expressions, values and calls: what reading them takes and gives, that their tokens are read as them where they end, and
 -- what they cannot begin with.
-use Rattle.std.proofs.Common.{◌≡◌, ℕ, suc, ◌+◌, ◌≤◌, Bool, true, false, List, [], ◌∷◌, ◌++◌, codes, Result, Ok, Err, refl, sym, ap, subst, ◌∙◌, arith}
-use Rattle.java_tree.specs.declared.token.Kind.{Kind}
+use Rattle.std.proofs.Common.{◌≡◌, ℕ, suc, ◌≤◌, Bool, true, false, [], ◌∷◌, ◌++◌, codes, Ok, refl, sym, ap, subst, ◌∙◌, arith}
 use Rattle.java_tree.specs.declared.token.Kind.TheVariants as k
 use Rattle.java_tree.specs.declared.tree.Expr.{Expr, out-Expr, roll-Expr, roll-out-Expr}
 use Rattle.java_tree.specs.declared.tree.Expr.TheVariants as expr
@@ -13,14 +12,13 @@ use Rattle.java_tree.specs.declared.tree.CallForm.TheOpen as layer
 use Rattle.java_tree.specs.Tokens.{Kinds, expr_tokens, value_tokens, call_tokens}
 use Rattle.java_tree.specs.Placed.{is_placed_expr, is_placed_value, is_placed_call}
 use Rattle.java_tree.specs.Heights.{expr_height, value_height, call_height}
-use Rattle.java_parser.specs.declared.operands.Opening.TheVariants as opening
-use Rattle.java_parser.specs.Words.{◌>>=◌, Fault, Reading, same_word, begins, after}
+use Rattle.java_parser.specs.Words.{same_word, begins}
 use Rattle.java_parser.specs.Members.{at_sign, semicolon, optional_at}
 use Rattle.java_parser.specs.Expressions.{opening_of, begins_expr, follows, all_rows, called_in, value_in, call_of, read_at, expr_at, value_at, call_at}
-use Rattle.java_parser.proofs.Laws.{bind_ok, same_Ok, then_is, after_takes, chosen, Takes, Keeps, Again}
+use Rattle.java_parser.proofs.Laws.{bind_ok, same_Ok, then_is, Takes, Keeps, Again}
 use Rattle.java_parser.proofs.Around.{optional, optional_takes}
 use Rattle.java_parser.proofs.TreeTokens.{called_tokens}
-use Rattle.java_parser.proofs.Sound.{Sound, SoundValue, SoundCall}
+use Rattle.java_parser.proofs.Sound.{Sound}
 use Rattle.java_parser.proofs.ExprTakes.{Taken, read_takes, called_reads, value_reads}
 use Rattle.java_parser.proofs.Follows.{not_opened}
 use Rattle.java_parser.proofs.Splits.{in_called}

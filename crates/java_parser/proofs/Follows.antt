@@ -1,5 +1,5 @@
 -- What may stand behind an expression.
-use Rattle.std.proofs.Common.{◌≡◌, ℕ, zero, suc, ◌+◌, ◌-◌, ◌<◌, ◌≤◌, Bool, true, false, not, ◌&&◌, nat_eq, nat_lt, nat_le, List, [], ◌∷◌, ◌++◌, length, map, Option, Some, None, Result, Ok, Err, ◌⊎◌, inl, inr, refl, sym, ap, subst, ◌∙◌, append_assoc, arith}
+use Rattle.std.proofs.Common.{◌≡◌, ℕ, suc, ◌+◌, ◌<◌, ◌≤◌, Bool, true, false, not, ◌&&◌, nat_eq, List, [], ◌∷◌, ◌++◌, length, map, Option, Some, None, ◌⊎◌, inl, inr, refl, sym, ap, subst, ◌∙◌, append_assoc, arith}
 use Rattle.std.proofs.lemmas.Bool.Decides.{Decides-eqb, nat_tests}
 use Rattle.std.proofs.lemmas.List.{length-append}
 use Rattle.std.specs.List.{flat_map}
@@ -9,25 +9,19 @@ use Rattle.java_tree.specs.declared.token.Kind.{Kind}
 use Rattle.java_tree.specs.declared.token.Kind.TheVariants as k
 use Rattle.java_tree.specs.declared.token.Reserved.{Reserved}
 use Rattle.java_tree.specs.declared.token.Reserved.TheVariants as word
-use Rattle.java_tree.specs.declared.token.Symbol.{Symbol}
-use Rattle.java_tree.specs.declared.token.Symbol.TheVariants as symbol
 use Rattle.java_tree.specs.declared.tree.Expr.{Expr}
 use Rattle.java_tree.specs.declared.tree.Operation.{Operation, out-Operation, roll-out-Operation}
 use Rattle.java_tree.specs.Levels.{operator_level}
 use Rattle.java_tree.specs.Tokens.{Kinds, operator_symbol, expr_tokens}
 use Rattle.java_tree.specs.Placed.{holding, is_above, is_row, standing_of}
-use Rattle.java_tree.specs.Heights.{expr_height}
-use Rattle.java_parser.specs.declared.operands.Opening.{Opening}
 use Rattle.java_parser.specs.declared.operands.Opening.TheVariants as opening
 use Rattle.java_parser.specs.Words.{same_word, begins}
 use Rattle.java_parser.specs.Members.{dot, open_paren, open_bracket}
 use Rattle.java_parser.specs.Expressions.{question, operator_ahead, of_level, operator_at, holds_from, follows, opening_of, opening_word, is_other, begins_expr, number_type_of, number_type_ahead, operation}
-use Rattle.java_parser.specs.Deeper.{operation_height}
 use Rattle.java_parser.proofs.Laws.{both, word_is}
-use Rattle.java_parser.proofs.TreeHeights.{operated_height}
 use Rattle.java_parser.proofs.TreeTokens.{operation_tokens, operated_tokens}
 use Rattle.java_parser.proofs.TreeStandings.{operation_standing_of, operated_standing}
-use Rattle.java_parser.proofs.Sound.{and_true, below}
+use Rattle.java_parser.proofs.Sound.{below}
 
 pub record Ends (level : ℕ) (rest : Kinds) : Type 0 where
   pub no_operator : holds_from level (operator_ahead rest) ≡ false

@@ -1,27 +1,25 @@
 -- The header of a `for`: what reading it takes, and that its tokens are read as it.
-use Rattle.std.proofs.Common.{◌≡◌, ℕ, suc, max, ◌≤◌, ◌<◌, Bool, true, false, not, ◌&&◌, List, [], ◌∷◌, ◌++◌, length, map, Option, Some, None, Result, Ok, Err, ◌⊎◌, inl, inr, if◌then◌else◌, refl, sym, ap, subst, ◌∙◌, append_assoc, arith}
-use Rattle.java_tree.specs.declared.token.Kind.{Kind}
+use Rattle.std.proofs.Common.{◌≡◌, ℕ, ◌≤◌, true, false, List, [], ◌∷◌, ◌++◌, map, Option, Some, None, Result, Ok, Err, inl, inr, refl, sym, ap, ◌∙◌, append_assoc, arith}
 use Rattle.java_tree.specs.declared.token.Kind.TheVariants as k
 use Rattle.java_tree.specs.declared.token.Reserved.TheVariants as word
-use Rattle.java_tree.specs.declared.tree.Local.{Local}
 use Rattle.java_tree.specs.declared.tree.Simple.{Simple}
 use Rattle.java_tree.specs.declared.tree.ForInit.{ForInit}
 use Rattle.java_tree.specs.declared.tree.ForInit.TheVariants as for_init
 use Rattle.java_tree.specs.declared.tree.Expr.{Expr}
-use Rattle.java_tree.specs.Tokens.{Kinds, separated, in_parentheses, local_tokens, simple_tokens, expr_tokens, init_tokens, condition}
-use Rattle.java_tree.specs.Placed.{all_of, is_placed_expr, is_placed_option, is_placed_local, is_placed_simple, is_placed_init}
-use Rattle.java_tree.specs.Heights.{greatest, option_height, expr_height, local_height, simple_height, init_height}
+use Rattle.java_tree.specs.Tokens.{Kinds, in_parentheses, expr_tokens, init_tokens, condition}
+use Rattle.java_tree.specs.Placed.{all_of, is_placed_expr, is_placed_option, is_placed_simple, is_placed_init}
+use Rattle.java_tree.specs.Heights.{greatest, option_height, expr_height, simple_height, init_height}
 use Rattle.java_parser.specs.declared.headers.ForHeader.{ForHeader}
 use Rattle.java_parser.specs.Words.{◌>>=◌, Fault, Reading, same_word, begins, after}
 use Rattle.java_parser.specs.Members.{comma, semicolon, open_paren, close_paren}
 use Rattle.java_parser.specs.Expressions.{expr_at}
 use Rattle.java_parser.specs.Simples.{local_ahead, local_at, simples_at}
 use Rattle.java_parser.specs.Headers.{init_at, condition_at, update_at, opening_at, closing_at, going_on_at, header_at}
-use Rattle.java_parser.proofs.Laws.{bind_ok, same_Ok, chosen, then_is, Takes, Keeps, Again, Any, given, kept, after_takes, after_again, both, begins_same}
+use Rattle.java_parser.proofs.Laws.{bind_ok, chosen, then_is, Takes, Keeps, Again, Any, given, kept, after_takes, after_again, begins_same}
 use Rattle.java_parser.proofs.Around.{close_paren_stops}
-use Rattle.java_parser.proofs.ExpressionLaws.{ends, expr_takes, expr_keeps, expr_again, expr_not_semicolon}
-use Rattle.java_parser.proofs.Ends.{IsEnd, semicolon_ends, paren_ends}
-use Rattle.java_parser.proofs.LocalLaws.{LocalFits, local_takes, local_keeps, local_again, local_begins}
+use Rattle.java_parser.proofs.ExpressionLaws.{expr_takes, expr_keeps, expr_again, expr_not_semicolon}
+use Rattle.java_parser.proofs.Ends.{semicolon_ends, paren_ends}
+use Rattle.java_parser.proofs.LocalLaws.{local_takes, local_keeps, local_again, local_begins}
 use Rattle.java_parser.proofs.SimpleLaws.{SimplesFit, SomeFit, simples_tokens, simples_take, simples_keep, simples_again, simples_begin}
 
 abbrev InitFits : ℕ → ForInit → Type 0

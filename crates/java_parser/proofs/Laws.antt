@@ -1,7 +1,7 @@
 -- What reading gives has the tokens that were taken, and the tokens of a thing are read as that thing: for words, names and
 -- things in a row.
-use Rattle.std.proofs.Common.{◌≡◌, ℕ, zero, suc, ◌+◌, ◌<◌, ◌≤◌, Bool, true, false, cond, not, ◌&&◌, List, [], ◌∷◌, ◌++◌, length, map, Option, Some, None, Result, Ok, Err, ◌⊎◌, inl, inr, if◌then◌else◌, refl, sym, ap, subst, ◌∙◌, append_assoc, arith}
-use Rattle.std.proofs.lemmas.List.{append-nil, length-append}
+use Rattle.std.proofs.Common.{◌≡◌, ℕ, zero, suc, ◌+◌, ◌<◌, ◌≤◌, Bool, true, false, cond, ◌&&◌, List, [], ◌∷◌, ◌++◌, length, map, Result, Ok, Err, ◌⊎◌, inl, inr, refl, sym, ap, subst, ◌∙◌, append_assoc, arith}
+use Rattle.std.proofs.lemmas.List.{length-append}
 use Rattle.std.specs.List.{flat_map}
 use Rattle.std.proofs.lemmas.Slice.Eq.{bytes_eq-Decides}
 use denote.Enum.Bare.{same_true, true_same}
@@ -9,7 +9,7 @@ use Rattle.java_tree.specs.contracts.token.Reserved.{the_type as reserved}
 use Rattle.java_tree.specs.contracts.token.Symbol.{the_type as symbols}
 use Rattle.java_tree.specs.declared.token.Kind.{Kind}
 use Rattle.java_tree.specs.declared.token.Kind.TheVariants as k
-use Rattle.java_tree.specs.Tokens.{Kinds, separated}
+use Rattle.java_tree.specs.Tokens.{Kinds}
 use Rattle.java_parser.specs.Words.{◌>>=◌, Fault, Reading, same_word, begins, after_word, after, name_at, many_at, all_at}
 
 -- ---- steps

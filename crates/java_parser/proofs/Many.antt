@@ -1,10 +1,10 @@
 -- Reading things one after the other, as a loop does.
-use Rattle.std.proofs.Common.{◌≡◌, ℕ, suc, ◌-◌, ◌+◌, ◌≤◌, ◌<◌, Bool, true, false, List, [], ◌∷◌, ◌++◌, length, Result, Ok, Err, refl, sym, ap, ◌∙◌, append_assoc, arith}
+use Rattle.std.proofs.Common.{◌≡◌, ℕ, suc, ◌-◌, ◌+◌, ◌≤◌, ◌<◌, Bool, true, false, List, [], ◌∷◌, ◌++◌, length, Ok, Err, refl, sym, ap, ◌∙◌, append_assoc, arith}
 use Rattle.std.proofs.lemmas.List.{append-nil, length-map}
 use Rattle.java_tree.specs.declared.token.Token.{Token}
 use Rattle.java_tree.specs.Tokens.{Kinds}
 use Rattle.java_parser.specs.declared.error.Refusal.{Refusal}
-use Rattle.java_parser.specs.Words.{◌>>=◌, Fault, Reading, Fails, kinds, many_at, all_at}
+use Rattle.java_parser.specs.Words.{◌>>=◌, Reading, Fails, kinds, many_at, all_at}
 use Rattle.java_parser.specs.Words.Fault.{NoClass}
 use Rattle.java_parser.proofs.Steps.{goes_on as on_with, fails}
 

@@ -1,34 +1,29 @@
 -- Methods and members: what reading them takes, and that their tokens are read as them.
-use Rattle.std.proofs.Common.{◌≡◌, ℕ, zero, suc, max, ◌≤◌, ◌<◌, Bool, true, false, not, ◌&&◌, List, [], ◌∷◌, ◌++◌, length, map, codes, Option, Some, None, Result, Ok, Err, ◌⊎◌, inl, inr, if◌then◌else◌, refl, sym, ap, subst, ◌∙◌, append_assoc, arith}
+use Rattle.std.proofs.Common.{◌≡◌, ℕ, suc, ◌≤◌, true, false, List, [], ◌∷◌, ◌++◌, map, Ok, inl, inr, refl, sym, ap, ◌∙◌, append_assoc, arith}
 use Rattle.std.specs.List.{flat_map}
 use Rattle.java_tree.specs.declared.token.Kind.{Kind}
 use Rattle.java_tree.specs.declared.token.Kind.TheVariants as k
 use Rattle.java_tree.specs.declared.token.Reserved.TheVariants as word
-use Rattle.java_tree.specs.declared.tree.Class.{Class}
-use Rattle.java_tree.specs.declared.tree.Import.{Import}
-use Rattle.java_tree.specs.declared.tree.QualifiedName.{QualifiedName}
 use Rattle.java_tree.specs.declared.tree.Modifier.{Modifier}
 use Rattle.java_tree.specs.declared.tree.Modifier.TheVariants as modifier
 use Rattle.java_tree.specs.declared.tree.FieldModifier.{FieldModifier}
 use Rattle.java_tree.specs.declared.tree.FieldModifier.TheVariants as field_modifier
-use Rattle.java_tree.specs.declared.tree.Field.{Field}
-use Rattle.java_tree.specs.declared.tree.TypeName.{TypeName}
 use Rattle.java_tree.specs.declared.tree.TypeName.TheVariants as type_name
 use Rattle.java_tree.specs.declared.tree.ResultType.{ResultType}
 use Rattle.java_tree.specs.declared.tree.ResultType.TheVariants as result_type
 use Rattle.java_tree.specs.declared.tree.Method.{Method}
 use Rattle.java_tree.specs.declared.tree.Member.{Member}
 use Rattle.java_tree.specs.declared.tree.Member.TheVariants as member
-use Rattle.java_tree.specs.Tokens.{Kinds, in_parentheses, in_braces, separated, package_tokens, import_tokens, modifier_tokens, field_modifier_tokens, field_tokens, type_tokens, result_tokens, param_tokens, item_tokens, method_tokens, member_tokens, tokens_of}
-use Rattle.java_tree.specs.Placed.{all_of, is_placed_item, is_placed_member, IsWellPlaced}
-use Rattle.java_tree.specs.Heights.{greatest, item_height, member_height, height, max_levels}
-use Rattle.java_parser.specs.Words.{◌>>=◌, Fault, Reading, refused, same_word, begins, after, name_at, many_at, all_at}
-use Rattle.java_parser.specs.Members.{at_sign, assign, open_paren, close_paren, behind, has_modifier, modifier_ahead, access_ahead, access_of, package_at, imports_at, modifiers_at, field_at, result_at, params_at}
+use Rattle.java_tree.specs.Tokens.{Kinds, in_parentheses, in_braces, separated, modifier_tokens, field_modifier_tokens, field_tokens, result_tokens, param_tokens, item_tokens, method_tokens, member_tokens}
+use Rattle.java_tree.specs.Placed.{all_of, is_placed_member}
+use Rattle.java_tree.specs.Heights.{greatest, member_height}
+use Rattle.java_parser.specs.Words.{same_word, begins, after, name_at}
+use Rattle.java_parser.specs.Members.{at_sign, assign, open_paren, close_paren, behind, has_modifier, modifier_ahead, access_ahead, access_of, modifiers_at, field_at, result_at, params_at}
 use Rattle.java_parser.specs.Simples.{begins_name}
-use Rattle.java_parser.specs.Statements.{open_brace, close_brace, has_more, block_at, statement_at}
-use Rattle.java_parser.specs.Classes.{initialises, declares, field_ahead, method_at, member_at, members_at, is_empty, class_at, body_levels}
-use Rattle.java_parser.proofs.Laws.{bind_ok, same_Ok, chosen, then_is, Takes, Keeps, Again, Any, given, kept, after_takes, after_again, both, begins_same, name_takes, name_again, many_takes, many_keeps, Begins, all_again}
-use Rattle.java_parser.proofs.Around.{package_takes, package_again, imports_take, imports_again, modifiers_take, modifiers_again, field_takes, field_again, result_takes, result_again, params_take, params_again}
+use Rattle.java_parser.specs.Statements.{has_more, block_at, statement_at}
+use Rattle.java_parser.specs.Classes.{initialises, declares, field_ahead, method_at, member_at}
+use Rattle.java_parser.proofs.Laws.{bind_ok, chosen, then_is, Takes, Keeps, Again, Any, given, kept, after_takes, after_again, both, name_takes, name_again, Begins}
+use Rattle.java_parser.proofs.Around.{modifiers_take, modifiers_again, field_takes, field_again, result_takes, result_again, params_take, params_again}
 use Rattle.java_parser.proofs.BlockLaws.{ItemsFit, block_takes, block_keeps, block_again}
 use Rattle.java_parser.proofs.StatementLaws.{statement_reads}
 

@@ -1,5 +1,5 @@
 -- Rows and what goes on behind an operand, as the loops read them.
-use Rattle.std.proofs.Common.{◌≡◌, ℕ, zero, suc, ◌-◌, ◌+◌, ◌≤◌, ◌<◌, Bool, true, false, nat_lt, List, [], ◌∷◌, ◌++◌, length, Option, Some, None, Result, Ok, Err, refl, sym, ap, subst, ◌∙◌, arith}
+use Rattle.std.proofs.Common.{◌≡◌, ℕ, zero, suc, ◌-◌, ◌+◌, ◌≤◌, ◌<◌, true, false, nat_lt, List, [], ◌∷◌, ◌++◌, length, Some, None, Ok, Err, refl, sym, ap, subst, ◌∙◌, arith}
 use Rattle.std.proofs.lemmas.List.{length-map}
 use Rattle.std.proofs.lemmas.Bool.Decides.{nat_tests}
 use Rattle.sdg_base.specs.declared.operator.BinOp.{BinOp}
@@ -10,7 +10,7 @@ use Rattle.java_tree.specs.Tokens.{Kinds}
 use Rattle.java_tree.specs.Heights.{expr_height}
 use Rattle.java_parser.specs.declared.error.Refusal.{Refusal}
 use Rattle.java_parser.specs.declared.error.Refusal.TheVariants as refusal
-use Rattle.java_parser.specs.Words.{◌>>=◌, Fault, Reading, Fails, kinds}
+use Rattle.java_parser.specs.Words.{◌>>=◌, Reading, Fails, kinds}
 use Rattle.java_parser.specs.Words.Fault.{NoClass, TooDeep}
 use Rattle.java_parser.specs.Expressions.{operator_at, tail, row, operation, row_from, row_in, looser_in, extended_in}
 use Rattle.java_parser.proofs.Steps.{goes_on, fails}

@@ -1,8 +1,7 @@
 -- What a read expression is: well placed, holding tightly enough, and on no more than the levels.
-use Rattle.std.proofs.Common.{◌≡◌, ℕ, suc, ◌+◌, ◌-◌, max, ◌<◌, ◌≤◌, Bool, true, false, ◌&&◌, nat_eq, nat_lt, List, [], ◌∷◌, ◌++◌, map, Option, Some, None, refl, sym, ap, subst, ◌∙◌, arith}
+use Rattle.std.proofs.Common.{◌≡◌, ℕ, suc, ◌+◌, ◌-◌, ◌<◌, ◌≤◌, Bool, true, ◌&&◌, nat_eq, nat_lt, List, [], ◌∷◌, map, refl, sym, ap, subst, ◌∙◌, arith}
 use Rattle.std.proofs.lemmas.Bool.Decides.{Decides-ltb, Decides-eqb}
 use Rattle.sdg_base.specs.declared.operator.BinOp.{BinOp}
-use Rattle.sdg_base.specs.declared.operator.BinOp.TheVariants as bin
 use Rattle.sdg_base.specs.declared.operator.UnOp.{UnOp}
 use Rattle.sdg_base.specs.declared.val.Num.{Num}
 use Rattle.java_tree.specs.declared.tree.Expr.{Expr}
@@ -13,11 +12,11 @@ use Rattle.java_tree.specs.declared.tree.CallForm.{CallForm}
 use Rattle.java_tree.specs.declared.tree.CallForm.TheVariants as call
 use Rattle.java_tree.specs.Levels.{operator_level}
 use Rattle.java_tree.specs.Placed.{Standing, holding, is_above, is_row, row_standing, standing_of, is_placed_value, is_placed_call}
-use Rattle.java_tree.specs.Heights.{expr_height, value_height, call_height, row_height}
+use Rattle.java_tree.specs.Heights.{expr_height, value_height, call_height}
 use Rattle.java_parser.specs.Expressions.{operation, valued, row}
-use Rattle.java_parser.specs.Deeper.{values_height, operation_height}
+use Rattle.java_parser.specs.Deeper.{values_height}
 use Rattle.java_parser.proofs.Laws.{both}
-use Rattle.java_parser.proofs.TreeHeights.{conditional_height, binary_height, unary_height, cast_height, number_height, truth_height, paren_height, maker_height, name_height, index_height, member_height, called_height, own_height, of_height, of_member_height, operated_height, valued_height, values_height_first, values_height_none}
+use Rattle.java_parser.proofs.TreeHeights.{conditional_height, unary_height, cast_height, number_height, truth_height, paren_height, maker_height, name_height, index_height, member_height, called_height, own_height, of_height, of_member_height, valued_height, values_height_first}
 use Rattle.java_parser.proofs.TreeStandings.{operation_standing_of, args_placed, conditional_standing, binary_standing, unary_standing, cast_standing, number_standing, truth_standing, paren_standing, maker_standing, name_standing, index_standing, member_standing, called_standing, own_placed, of_placed, of_member_placed, operated_standing, valued_placed}
 
 -- The looseness is what is left to the tightest operators: an operand that may hold at a level has the looseness 11 less it.

@@ -1,6 +1,5 @@
 -- The parts of an expression that is well placed and on no more than the levels are so too.
-use Rattle.std.proofs.Common.{◌≡◌, ℕ, zero, suc, ◌+◌, ◌-◌, max, ◌<◌, ◌≤◌, Bool, true, false, ◌&&◌, nat_eq, nat_lt, List, [], ◌∷◌, ◌++◌, map, refl, sym, ap, subst, ◌∙◌, append_assoc, arith}
-use Rattle.sdg_base.specs.declared.operator.BinOp.{BinOp}
+use Rattle.std.proofs.Common.{◌≡◌, ℕ, suc, max, ◌<◌, ◌≤◌, true, false, ◌&&◌, List, [], ◌∷◌, ◌++◌, map, refl, sym, ap, subst, ◌∙◌, append_assoc, arith}
 use Rattle.sdg_base.specs.declared.operator.UnOp.{UnOp}
 use Rattle.sdg_base.specs.declared.val.Num.{Num}
 use Rattle.java_tree.specs.declared.tree.Expr.{Expr}
@@ -10,10 +9,10 @@ use Rattle.java_tree.specs.declared.tree.Value.{Value, out-Value, roll-out-Value
 use Rattle.java_tree.specs.declared.tree.CallForm.{CallForm}
 use Rattle.java_tree.specs.declared.tree.CallForm.TheVariants as call
 use Rattle.java_tree.specs.Levels.{operator_level}
-use Rattle.java_tree.specs.Placed.{Standing, is_above, is_row, row_standing, standing_of, is_placed_value, is_placed_call}
-use Rattle.java_tree.specs.Heights.{expr_height, value_height, call_height, row_height}
-use Rattle.java_parser.specs.Expressions.{operation, valued, row}
-use Rattle.java_parser.specs.Deeper.{values_height, operation_height}
+use Rattle.java_tree.specs.Placed.{Standing, is_above, is_row, row_standing, standing_of, is_placed_value}
+use Rattle.java_tree.specs.Heights.{expr_height, value_height, row_height}
+use Rattle.java_parser.specs.Expressions.{valued, row}
+use Rattle.java_parser.specs.Deeper.{operation_height}
 use Rattle.java_parser.proofs.Laws.{both}
 use Rattle.java_parser.proofs.TreeHeights.{conditional_height, binary_height, unary_height, cast_height, paren_height, maker_height, index_height, called_height, own_height, of_height, of_member_height, valued_height, values_height_first, row_more_height}
 use Rattle.java_parser.proofs.TreeStandings.{operation_standing_of, args_placed, conditional_standing, binary_standing, unary_standing, cast_standing, paren_standing, maker_standing, index_standing, called_standing, own_placed, of_placed, of_member_placed, valued_placed}

@@ -1,5 +1,5 @@
 -- A fold of each kind of statement is its step at the folds of the parts; and each statement is of one of these kinds.
-use Rattle.std.proofs.Common.{◌≡◌, List, [], map, Option, Some, None, sym, ap, subst, ◌∙◌}
+use Rattle.std.proofs.Common.{◌≡◌, List, map, Option, Some, None, sym, ap, subst, ◌∙◌}
 use Rattle.java_tree.specs.declared.tree.Local.{Local}
 use Rattle.java_tree.specs.declared.tree.Simple.{Simple}
 use Rattle.java_tree.specs.declared.tree.ForInit.{ForInit}

@@ -1,5 +1,5 @@
 -- One step of a reading, as a loop takes it.
-use Rattle.std.proofs.Common.{◌≡◌, Result, Ok, Err, sym, ap, ◌∙◌}
+use Rattle.std.proofs.Common.{◌≡◌, Result, Ok, sym, ap, ◌∙◌}
 use Rattle.java_parser.specs.declared.error.Refusal.{Refusal}
 use Rattle.java_parser.specs.declared.error.Refusal.TheVariants as refusal
 use Rattle.java_parser.specs.Words.{◌>>=◌, Fault, Fails}

@@ -5,8 +5,8 @@ use Rattle.sdg_base.specs.declared.operator.UnOp.{UnOp}
 use Rattle.sdg_base.specs.declared.val.Num.{Num}
 use Rattle.java_tree.specs.declared.tree.Expr.{Expr}
 use Rattle.java_tree.specs.declared.tree.Expr.TheVariants as e
-use Rattle.java_tree.specs.declared.tree.Operation.{Operation, roll-Operation}
-use Rattle.java_tree.specs.declared.tree.Value.{Value, roll-Value}
+use Rattle.java_tree.specs.declared.tree.Operation.{Operation}
+use Rattle.java_tree.specs.declared.tree.Value.{Value}
 use Rattle.java_tree.specs.declared.tree.CallForm.{CallForm}
 use Rattle.java_tree.specs.declared.tree.CallForm.TheVariants as call
 use Rattle.java_tree.specs.declared.tree.CallForm.TheOpen.{CallForm-F, Expr-F, Operation-F, Value-F}

@@ -1,11 +1,8 @@
 -- The standing of each kind of expression.
-use Rattle.std.proofs.Common.{◌≡◌, ℕ, Bool, true, false, ◌&&◌, List, [], ◌∷◌, ◌++◌, map, nat_eq, nat_lt, refl, sym, ap, ◌∙◌, append_assoc}
-use Rattle.std.specs.List.{flat_map}
+use Rattle.std.proofs.Common.{◌≡◌, ℕ, Bool, true, ◌&&◌, List, [], ◌∷◌, map, refl, ap, ◌∙◌}
 use Rattle.sdg_base.specs.declared.operator.BinOp.{BinOp}
 use Rattle.sdg_base.specs.declared.operator.UnOp.{UnOp}
 use Rattle.sdg_base.specs.declared.val.Num.{Num}
-use Rattle.java_tree.specs.declared.token.Kind.TheVariants as k
-use Rattle.java_tree.specs.declared.token.Reserved.TheVariants as word
 use Rattle.java_tree.specs.declared.tree.Expr.{Expr}
 use Rattle.java_tree.specs.declared.tree.Expr.TheVariants as e
 use Rattle.java_tree.specs.declared.tree.Operation.{Operation}
@@ -13,11 +10,10 @@ use Rattle.java_tree.specs.declared.tree.Value.{Value}
 use Rattle.java_tree.specs.declared.tree.CallForm.{CallForm}
 use Rattle.java_tree.specs.declared.tree.CallForm.TheVariants as call
 use Rattle.java_tree.specs.declared.tree.CallForm.TheFolds.{fold-Operation}
-use Rattle.java_parser.specs.Expressions.{operation, valued, question, colon}
-use Rattle.java_parser.specs.Members.{dot, comma, open_paren, close_paren, open_bracket, close_bracket}
+use Rattle.java_parser.specs.Expressions.{operation, valued}
 use Rattle.java_parser.proofs.TreeLayers as layer
 use Rattle.java_tree.specs.Levels.{operator_level}
-use Rattle.java_tree.specs.Placed.{all_of, Standing, holding, is_above, is_row, row_standing, expr_standing, operation_standing, value_placed, call_placed, standing_of, is_placed_value, is_placed_call}
+use Rattle.java_tree.specs.Placed.{all_of, Standing, holding, is_above, row_standing, expr_standing, operation_standing, value_placed, call_placed, standing_of, is_placed_value, is_placed_call}
 
 all_flat : {A : Type 0} (f : A → Bool) (xs : List A) → all_of (λ b. b) (map f xs) ≡ all_of f xs
 all_flat f [] = refl

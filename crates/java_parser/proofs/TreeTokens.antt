@@ -1,5 +1,5 @@
 -- The tokens of each kind of expression.
-use Rattle.std.proofs.Common.{◌≡◌, ℕ, Bool, true, false, ◌&&◌, List, [], ◌∷◌, ◌++◌, map, nat_eq, nat_lt, refl, sym, ap, ◌∙◌, append_assoc}
+use Rattle.std.proofs.Common.{◌≡◌, ℕ, Bool, true, false, List, [], ◌∷◌, ◌++◌, map, refl, ap, ◌∙◌}
 use Rattle.std.specs.List.{flat_map}
 use Rattle.sdg_base.specs.declared.operator.BinOp.{BinOp}
 use Rattle.sdg_base.specs.declared.operator.UnOp.{UnOp}
@@ -14,7 +14,7 @@ use Rattle.java_tree.specs.declared.tree.CallForm.{CallForm}
 use Rattle.java_tree.specs.declared.tree.CallForm.TheVariants as call
 use Rattle.java_tree.specs.declared.tree.CallForm.TheFolds.{fold-Operation}
 use Rattle.java_parser.specs.Expressions.{operation, valued, question, colon}
-use Rattle.java_parser.specs.Members.{dot, comma, open_paren, close_paren, open_bracket, close_bracket}
+use Rattle.java_parser.specs.Members.{dot, open_bracket, close_bracket}
 use Rattle.java_parser.proofs.TreeLayers as layer
 use Rattle.java_tree.specs.Tokens.{Kinds, in_parentheses, separated, global, unary_symbol, operator_symbol, number_type, expr_step, operation_step, value_step, call_step, expr_tokens, value_tokens, call_tokens}
 

@@ -1,7 +1,7 @@
 -- Reading expressions (JLS 15). Each is read with a number of levels on which it may stand inside itself, and goes on with
 -- operators that hold loosely enough: 0 is for an operand of a unary operator, 1 and more also for the rows of operators
 -- from the tightest level on, and 11 also for a conditional.
-use Rattle.std.specs.Prelude.{ℕ, zero, suc, ◌-◌, max, Bool, true, false, not, ◌&&◌, ◌||◌, if◌then◌else◌, nat_eq, nat_lt, nat_le, List, [], ◌∷◌, ◌++◌, length, Option, Some, None, Result, Ok, Err, codes}
+use Rattle.std.specs.Prelude.{ℕ, zero, suc, ◌-◌, Bool, true, false, not, ◌&&◌, if◌then◌else◌, nat_eq, nat_lt, nat_le, List, [], ◌∷◌, ◌++◌, length, Option, Some, None, Ok, codes}
 use Rattle.sdg_base.specs.declared.operator.BinOp.{BinOp}
 use Rattle.sdg_base.specs.declared.operator.BinOp.TheVariants as bin
 use Rattle.sdg_base.specs.declared.operator.UnOp.{UnOp}
@@ -27,7 +27,7 @@ use Rattle.java_tree.specs.Levels.{operator_level}
 use Rattle.java_tree.specs.Heights.{expr_height}
 use Rattle.java_parser.specs.declared.operands.Opening.{Opening}
 use Rattle.java_parser.specs.declared.operands.Opening.TheVariants as opening
-use Rattle.java_parser.specs.Words.{Fault, Reading, ◌>>=◌, refused, too_deep, begins, after, name_at, all_at}
+use Rattle.java_parser.specs.Words.{Reading, ◌>>=◌, refused, too_deep, begins, after, name_at, all_at}
 use Rattle.java_parser.specs.Members.{dot, at_sign, comma, open_paren, close_paren, open_bracket, close_bracket, optional_at}
 
 -- ---- words

@@ -1,5 +1,5 @@
 -- Reading the header of a `for` (JLS 14.14). The number is how many levels are left inside the statement.
-use Rattle.std.specs.Prelude.{ℕ, Bool, if◌then◌else◌, List, [], ◌∷◌, Option, Some, None, Result, Ok, Err}
+use Rattle.std.specs.Prelude.{ℕ, if◌then◌else◌, List, [], ◌∷◌, Option, Some, None, Ok}
 use Rattle.java_tree.specs.declared.token.Kind.TheVariants as k
 use Rattle.java_tree.specs.declared.token.Reserved.TheVariants as word
 use Rattle.java_tree.specs.declared.tree.Simple.{Simple}
@@ -8,7 +8,7 @@ use Rattle.java_tree.specs.declared.tree.ForInit.TheVariants as for_init
 use Rattle.java_tree.specs.declared.tree.Expr.{Expr}
 use Rattle.java_tree.specs.Tokens.{Kinds}
 use Rattle.java_parser.specs.declared.headers.ForHeader.{ForHeader}
-use Rattle.java_parser.specs.Words.{◌>>=◌, Fault, Reading, begins, after}
+use Rattle.java_parser.specs.Words.{◌>>=◌, Reading, begins, after}
 use Rattle.java_parser.specs.Members.{semicolon, open_paren, close_paren}
 use Rattle.java_parser.specs.Expressions.{expr_at}
 use Rattle.java_parser.specs.Simples.{local_ahead, local_at, simples_at}

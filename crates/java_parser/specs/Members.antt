@@ -1,5 +1,5 @@
 -- Reading what stands around the bodies of methods: package, imports, modifiers, fields, types and parameters.
-use Rattle.std.specs.Prelude.{ℕ, Bool, true, false, not, ◌&&◌, if◌then◌else◌, List, [], ◌∷◌, length, Option, Some, None, is_some, Result, Ok, Err, codes}
+use Rattle.std.specs.Prelude.{ℕ, Bool, true, false, not, ◌&&◌, if◌then◌else◌, List, [], ◌∷◌, Option, Some, None, is_some, Result, Ok, codes}
 use Rattle.java_tree.specs.declared.token.Kind.{Kind}
 use Rattle.java_tree.specs.declared.token.Kind.TheVariants as k
 use Rattle.java_tree.specs.declared.token.Reserved.{Reserved}

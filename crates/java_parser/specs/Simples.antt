@@ -1,7 +1,6 @@
 -- Reading locals and the statements that are expressions (JLS 14.4, 14.8).
 -- The number is how many levels are left, that of the statement itself included.
-use Rattle.std.specs.Prelude.{ℕ, zero, suc, Bool, true, false, ◌&&◌, if◌then◌else◌, List, [], ◌∷◌, Option, Some, None, is_some, Result, Ok, Err, codes}
-use Rattle.java_tree.specs.declared.token.Kind.{Kind}
+use Rattle.std.specs.Prelude.{ℕ, zero, suc, Bool, true, false, ◌&&◌, if◌then◌else◌, List, [], ◌∷◌, Option, Some, None, is_some, Result, Ok, codes}
 use Rattle.java_tree.specs.declared.token.Kind.TheVariants as k
 use Rattle.java_tree.specs.declared.token.Symbol.{Symbol}
 use Rattle.java_tree.specs.declared.token.Symbol.TheVariants as symbol

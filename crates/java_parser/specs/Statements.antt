@@ -1,11 +1,10 @@
 -- Reading statements (JLS 14) and blocks. Of a statement the number is how many levels are left, its own included; of its
 -- parts, how many are left inside it. The reader of the statements inside it is passed along.
-use Rattle.std.specs.Prelude.{ℕ, zero, suc, Bool, true, false, not, if◌then◌else◌, List, [], ◌∷◌, Option, Some, None, Result, Ok, Err}
+use Rattle.std.specs.Prelude.{ℕ, zero, suc, Bool, false, not, if◌then◌else◌, List, [], ◌∷◌, Option, Some, None, Result, Ok}
 use Rattle.java_tree.specs.declared.token.Kind.{Kind}
 use Rattle.java_tree.specs.declared.token.Kind.TheVariants as k
 use Rattle.java_tree.specs.declared.token.Reserved.{Reserved}
 use Rattle.java_tree.specs.declared.token.Reserved.TheVariants as word
-use Rattle.java_tree.specs.declared.token.Symbol.{Symbol}
 use Rattle.java_tree.specs.declared.token.Symbol.TheVariants as symbol
 use Rattle.java_tree.specs.declared.tree.BlockItem.{BlockItem}
 use Rattle.java_tree.specs.declared.tree.BlockItem.TheVariants as item

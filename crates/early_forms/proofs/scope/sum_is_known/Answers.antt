@@ -1,4 +1,3 @@
-use Rattle.std.proofs.Common.{refl}
 use Rattle.early_forms.specs.Names.{AtomIsKnown}
 use Rattle.early_forms.proofs.Lists.{all_cons}
 use Rattle.early_forms.proofs.scope.sum_is_known.Goals as goal

@@ -1,4 +1,4 @@
-use Rattle.std.proofs.Common.{◌≡◌, Err, ap, refl, sym, ◌∙◌, ℕ, zero, suc, arith, ◌-◌, length, map}
+use Rattle.std.proofs.Common.{◌≡◌, Err, ap, ◌∙◌, suc, arith, ◌-◌}
 use Rattle.std.proofs.lemmas.List.{length-map}
 use Rattle.java_parser.specs.Words.{kinds}
 use Rattle.java_parser.specs.Words.Fault.{TooDeep}

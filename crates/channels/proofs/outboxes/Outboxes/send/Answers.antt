@@ -2,8 +2,8 @@ use Rattle.std.proofs.Common.{◌≡◌, ℕ, ◌+◌, ◌++◌, ◌∷◌, [], 
 use Rattle.std.specs.List.{position}
 use Rattle.sdg_base.specs.declared.item.Item.{Item}
 use Rattle.channels.specs.declared.outbox.Outbox.{Outbox}
-use Rattle.channels.specs.Outboxes.{is_to, no_outbox}
-use Rattle.channels.proofs.Sendings.{Replaces, replaces-set, replaces-push, replaces_at, same_outbox, on_err, outbox_of-read}
+use Rattle.channels.specs.Outboxes.{is_to}
+use Rattle.channels.proofs.Sendings.{replaces-set, replaces-push, replaces_at, on_err, outbox_of-read}
 use Rattle.channels.proofs.outboxes.Outboxes.send.Goals as goal
 
 pub send-requires : goal.send-requires

@@ -3,7 +3,7 @@ use Rattle.std.specs.List.{position}
 use Rattle.channels.specs.declared.outbox.Outbox.{Outbox}
 use Rattle.channels.specs.Sent.{trimmed}
 use Rattle.channels.specs.Outboxes.{is_to}
-use Rattle.channels.proofs.Sendings.{Replaces, replaces-set, trim-none}
+use Rattle.channels.proofs.Sendings.{replaces-set, trim-none}
 use Rattle.channels.proofs.outboxes.Outboxes.trim.Goals as goal
 
 pub returns-in-Some-clause-last : goal.returns-in-Some-clause-last

@@ -1,4 +1,4 @@
-use Rattle.std.proofs.Common.{◌≡◌, Some, None, List, get_or, slice_get, length, sym, ap, ◌∙◌}
+use Rattle.std.proofs.Common.{◌≡◌, Some, None, List, get_or, sym, ap, ◌∙◌}
 use Rattle.std.specs.List.{position}
 use Rattle.channels.specs.declared.outbox.Outbox.{Outbox}
 use Rattle.channels.specs.declared.sending.Sending.{Sending}
