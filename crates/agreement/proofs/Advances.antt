@@ -1,9 +1,8 @@
 -- An item that a cell takes, and the step of the source that goes with it.
-use Rattle.std.proofs.Common.{◌≡◌, ◌≢◌, int_eq, ℕ, suc, ◌+◌, ◌*◌, ◌/◌, ◌%◌, ◌^◌, w64, ◌<◌, ◌≤◌, ℤ, Bool, true, false, cond, List, [], ◌∷◌, length, Option, Some, None, ◌⊎◌, inl, inr, slice_get, refl, ap, sym, ◌∙◌, subst, arith}
+use Rattle.std.proofs.Common.{◌≡◌, ◌≢◌, int_eq, ℕ, ◌*◌, ◌/◌, ◌%◌, ◌^◌, w64, ◌<◌, ◌≤◌, ℤ, true, false, List, [], ◌∷◌, length, Option, Some, None, ◌⊎◌, inl, inr, slice_get, refl, ap, sym, ◌∙◌, subst, arith}
 use Rattle.std.specs.Int.{cast_unsigned}
 use Rattle.std.proofs.lemmas.Bool.Decides.{Decides-int_eq}
 use Rattle.sdg_base.specs.declared.val.Val.{Val}
-use Rattle.sdg_base.specs.declared.val.Outcome.{Outcome}
 use Rattle.sdg_base.specs.declared.call.Call.{Call}
 use Rattle.sdg_base.specs.declared.call.Step.TheVariants as step
 use Rattle.sdg_base.specs.declared.port.Port.{Port}
@@ -25,8 +24,8 @@ use Rattle.task_code.specs.declared.graph.Graph.{Graph}
 use Rattle.task_code.specs.Machine.{runs}
 use Rattle.task_code.specs.Progress.{Progress}
 use Rattle.cluster.specs.History.{IsCell, call_of, shown_entry}
-use Rattle.agreement.specs.Simulation.{Begins, Continues, Fitting, Simulation, entry_in, field_names, left}
-use Rattle.agreement.proofs.Ports.{same_port_refl, same_port_not}
+use Rattle.agreement.specs.Simulation.{Fitting, Simulation, entry_in, field_names, left}
+use Rattle.sdg_base.proofs.Ports.{same_port-refl, same_port-other}
 use Rattle.agreement.proofs.Invariant.{Spot, IsIn, IsReceiver, IsStart, SameEntry, Agreement}
 use Rattle.agreement.proofs.Channels.{one, stepped, stepped_own, stepped_other, bool_cases, port_cases}
 use Rattle.agreement.proofs.Moves.{now_after}
@@ -69,15 +68,15 @@ not_a_start class calls slots port.Front (item.Part n t width number turns vars 
 not_a_start class calls slots port.Front (item.Done n outcome) place h = absurd h
 
 apart : (f s : ℕ) → same_port port.Front (port.Slot f s) ≡ false
-apart f s = same_port_not port.Front (port.Slot f s) (λ e. absurd cc)
+apart f s = same_port-other port.Front (port.Slot f s) (λ e. absurd cc)
 
 not_front : (f s : ℕ) → same_port (port.Slot f s) port.Front ≡ false
-not_front f s = same_port_not (port.Slot f s) port.Front (λ e. absurd cc)
+not_front f s = same_port-other (port.Slot f s) port.Front (λ e. absurd cc)
 
 not_here : (f g s t : ℕ) → same_port (port.Slot f s) (port.Slot g t) ≡ false → f ≡ g → s ≡ t → ⊥
 not_here f g s t other e h =
     let yes : same_port (port.Slot f s) (port.Slot g t) ≡ true =
-    ap (λ (q : ℕ). same_port (port.Slot f s) (port.Slot q t)) (sym e) ∙ ap (λ (q : ℕ). same_port (port.Slot f s) (port.Slot f q)) (sym h) ∙ same_port_refl (port.Slot f s) in
+    ap (λ (q : ℕ). same_port (port.Slot f s) (port.Slot q t)) (sym e) ∙ ap (λ (q : ℕ). same_port (port.Slot f s) (port.Slot f q)) (sym h) ∙ same_port-refl (port.Slot f s) in
     absurd cc
 
 rest_below : (n slots : ℕ) → 1 ≤ slots → (n % (2 ^ 64)) / (2 ^ 58) % slots < slots

@@ -1,5 +1,5 @@
 -- What one more entry of a cell changes: its own channels and what it took, and nothing of any other cell.
-use Rattle.std.proofs.Common.{◌≡◌, ◌≢◌, ℕ, ◌+◌, ◌<◌, ◌≤◌, length-append, Bool, true, false, cond, List, [], ◌∷◌, ◌++◌, length, Option, Some, None, ◌⊎◌, inl, inr, slice_get, if◌then◌else◌, refl, ap, sym, ◌∙◌, subst, arith}
+use Rattle.std.proofs.Common.{◌≡◌, ℕ, ◌+◌, ◌<◌, ◌≤◌, length-append, Bool, true, false, List, [], ◌∷◌, ◌++◌, length, Some, ◌⊎◌, inl, inr, slice_get, if◌then◌else◌, refl, ap, sym, ◌∙◌, subst, arith}
 use Rattle.std.proofs.lemmas.List.{append-nil}
 use Rattle.std.proofs.lemmas.Option.{slice_get_within}
 use Rattle.sdg_base.specs.declared.port.Port.{Port}
@@ -9,8 +9,8 @@ use Rattle.state_classes.specs.States.{State}
 use Rattle.task_code.specs.Machine.{Ran, Runs, runs}
 use Rattle.task_code.specs.Progress.{Taken, Progress, ran_or_nothing, outputs_to, progress_with, progress_after}
 use Rattle.cluster.specs.History.{Setup, after_entry}
-use Rattle.agreement.proofs.Ports.{same_port_is, same_port_refl, same_port_not}
-use Rattle.agreement.proofs.Lists.{last_or_before, still_there, at_end}
+use Rattle.sdg_base.proofs.Ports.{same_port-true, same_port-refl}
+use Rattle.cluster.proofs.Lists.{last_or_before, still_there, at_end}
 use Rattle.agreement.proofs.Invariant.{Spot, item_at, IsAhead}
 
 -- one output
@@ -27,11 +27,11 @@ bool_cases false = inr refl
 
 -- it is the same cell, or another
 pub port_cases : (p q : Port) → (p ≡ q) ⊎ (same_port p q ≡ false)
-port_cases p q = elim (bool_cases (same_port p q)) [ inl e ↦ inl (same_port_is p q e) | inr e ↦ inr e ]
+port_cases p q = elim (bool_cases (same_port p q)) [ inl e ↦ inl (same_port-true p q e) | inr e ↦ inr e ]
 
 pub stepped_own : (own from : Port) (ran : Ran) (cells : Port → Progress) (p : Port) → own ≡ p → stepped own from ran cells p ≡ progress_with from ran (cells p)
 stepped_own own from ran cells p e =
-    let same : same_port own p ≡ true = let P : Port → Type 0 = λ q. same_port own q ≡ true in subst P e (same_port_refl own) in
+    let same : same_port own p ≡ true = let P : Port → Type 0 = λ q. same_port own q ≡ true in subst P e (same_port-refl own) in
     ap (λ (b : Bool). if b then progress_with from ran (cells p) else cells p) same
 
 pub stepped_other : (own from : Port) (ran : Ran) (cells : Port → Progress) (p : Port) → same_port own p ≡ false → stepped own from ran cells p ≡ cells p
@@ -39,7 +39,7 @@ stepped_other own from ran cells p e = ap (λ (b : Bool). if b then progress_wit
 
 own_side : (s : Setup) (e : Taken) (cells : Port → Progress) (p : Port) → e.cell ≡ p → after_entry s e cells p ≡ progress_after s.graph s.header.slots e (cells p)
 own_side s e cells p same =
-    let yes : same_port e.cell p ≡ true = let P : Port → Type 0 = λ q. same_port e.cell q ≡ true in subst P same (same_port_refl e.cell) in
+    let yes : same_port e.cell p ≡ true = let P : Port → Type 0 = λ q. same_port e.cell q ≡ true in subst P same (same_port-refl e.cell) in
     ap (λ (b : Bool). if b then progress_after s.graph s.header.slots e (cells p) else cells p) yes
 
 -- an entry whose item runs so
@@ -80,7 +80,7 @@ given_cases own from to out state cells spot x e =
           ap (λ (q : Progress). slice_get (q.gave spot.to) spot.index) (sym (stepped_own own from (one to out state) cells spot.from same)) ∙ e in
           elim (given_cases_at (same_port to spot.to) ((cells spot.from).gave spot.to) out spot.index x h) [
             | inl old ↦ inl old
-            | inr new ↦ inr (spot_is cells own to spot same (same_port_is to spot.to new.0) new.1, new.2)
+            | inr new ↦ inr (spot_is cells own to spot same (same_port-true to spot.to new.0) new.1, new.2)
           ]
       | inr other ↦ inl (ap (λ (q : Progress). slice_get (q.gave spot.to) spot.index) (sym (stepped_other own from (one to out state) cells spot.from other)) ∙ e)
     ]
@@ -100,7 +100,7 @@ pub output_is : (own from to : Port) (out : Item) (state : State) (cells : Port 
     → item_at (stepped own from (one to out state) cells) (record { from = own; to = to; index = length ((cells own).gave to) }) ≡ Some out
 output_is own from to out state cells =
     ap (λ (q : Progress). slice_get (q.gave to) (length ((cells own).gave to))) (stepped_own own from (one to out state) cells own refl)
-    ∙ ap (λ (b : Bool). slice_get ((cells own).gave to ++ (if b then out ∷ [] else [])) (length ((cells own).gave to))) (same_port_refl to)
+    ∙ ap (λ (b : Bool). slice_get ((cells own).gave to ++ (if b then out ∷ [] else [])) (length ((cells own).gave to))) (same_port-refl to)
     ∙ at_end ((cells own).gave to) out
 
 -- ---- what was taken
@@ -110,13 +110,13 @@ taken_at true n i l = (omega arith, λ _ e. absurd (omega arith))
 taken_at false n i l = (l, λ e _. absurd cc)
 
 from_is : (spot : Spot) (from : Port) → from ≡ spot.from → same_port spot.from from ≡ true
-from_is spot from f = let P : Port → Type 0 = λ q. same_port q from ≡ true in subst P f (same_port_refl from)
+from_is spot from f = let P : Port → Type 0 = λ q. same_port q from ≡ true in subst P f (same_port-refl from)
 
 took_is : (cells : Port → Progress) (own from : Port) (spot : Spot) → own ≡ spot.to → from ≡ spot.from → (cells spot.to).took spot.from ≡ (cells own).took from
 took_is cells own from spot e f = ap (λ (q : Port). (cells q).took spot.from) (sym e) ∙ ap (λ (q : Port). (cells own).took q) (sym f)
 
 differ : (p q : Port) → same_port p q ≡ false → p ≡ q → ⊥
-differ p q apart e = let P : Port → Type 0 = λ r. same_port p r ≡ true in let yes : same_port p q ≡ true = subst P e (same_port_refl p) in absurd cc
+differ p q apart e = let P : Port → Type 0 = λ r. same_port p r ≡ true in let yes : same_port p q ≡ true = subst P e (same_port-refl p) in absurd cc
 
 -- What is ahead now was ahead before, and is not the item that was taken.
 pub ahead_before : (own from : Port) (ran : Ran) (cells : Port → Progress) (spot : Spot) → IsAhead (stepped own from ran cells) spot
@@ -149,7 +149,7 @@ ahead_still own from ran cells spot l differs =
           let P : Progress → Type 0 = λ q. q.took spot.from ≤ spot.index in
           subst P (sym (stepped_own own from ran cells spot.to same))
           (taken_on (same_port spot.from from) ((cells spot.to).took spot.from) spot.index l
-          (λ f g. let e = same_port_is spot.from from f in differs same (sym e) (ap (λ (q : Port). (cells q).took from) same ∙ ap (λ (q : Port). (cells spot.to).took q) (sym e) ∙ g)))
+          (λ f g. let e = same_port-true spot.from from f in differs same (sym e) (ap (λ (q : Port). (cells q).took from) same ∙ ap (λ (q : Port). (cells spot.to).took q) (sym e) ∙ g)))
       | inr other ↦
           let P : Progress → Type 0 = λ q. q.took spot.from ≤ spot.index in
           subst P (sym (stepped_other own from ran cells spot.to other)) l
@@ -197,7 +197,7 @@ bounded_still own from ran cells x given bounded sender receiver =
           subst P (sym (stepped_own own from ran cells receiver same))
           (reach (if same_port sender from then (cells receiver).took sender + 1 else (cells receiver).took sender) (length ((cells sender).gave receiver)) (length ((stepped own from ran cells sender).gave receiver))
           (bounded_at (same_port sender from) ((cells receiver).took sender) (length ((cells sender).gave receiver)) (bounded sender receiver)
-          (λ f. within own from cells x given sender receiver same (same_port_is sender from f)))
+          (λ f. within own from cells x given sender receiver same (same_port-true sender from f)))
           longer)
       | inr other ↦
           let P : Progress → Type 0 = λ q. q.took sender ≤ length ((stepped own from ran cells sender).gave receiver) in

@@ -1,8 +1,8 @@
 -- The run to completion leaves no call without its result.
-use Rattle.std.proofs.Common.{◌≡◌, ◌≢◌, ℕ, zero, suc, ◌+◌, ◌*◌, ◌-◌, ◌^◌, ◌<◌, ◌≤◌, Bool, true, false, ◌&&◌, ◌==◌, List, [], ◌∷◌, ◌++◌, length, Option, Some, None, ◌⊎◌, inl, inr, slice_get, if◌then◌else◌, refl, ap, sym, ◌∙◌, subst, arith}
+use Rattle.std.proofs.Common.{◌≡◌, ℕ, zero, suc, ◌+◌, ◌<◌, ◌≤◌, Bool, true, false, ◌&&◌, ◌==◌, List, [], ◌∷◌, ◌++◌, length, Option, Some, None, ◌⊎◌, inl, inr, slice_get, if◌then◌else◌, refl, ap, sym, ◌∙◌, subst, arith}
 use Rattle.std.specs.Prelude.{nat_lt, sum_by}
-use Rattle.std.proofs.lemmas.Option.{slice_get_within, same_Some}
-use Rattle.std.proofs.lemmas.Bool.{eqb-true, eq-eqb, lt-ltb, ltb-true, ltb-false}
+use Rattle.std.proofs.lemmas.Option.{slice_get_within}
+use Rattle.std.proofs.lemmas.Bool.{eqb-true, lt-ltb, ltb-true, ltb-false, false_from_ne_true}
 use Rattle.sdg_base.specs.declared.call.Call.{Call}
 use Rattle.sdg_base.specs.declared.port.Port.{Port}
 use Rattle.sdg_base.specs.declared.port.Port.TheVariants as port
@@ -11,17 +11,16 @@ use Rattle.sdg_base.specs.Ports.{same_port}
 use Rattle.java_tree.specs.declared.tree.Class.{Class}
 use Rattle.access_blocks.specs.Members.{fields}
 use Rattle.access_blocks.specs.Source.{CallState, nth}
-use Rattle.task_code.specs.Progress.{Progress}
 use Rattle.cluster.specs.History.{Setup, IsCell, call_of}
-use Rattle.cluster.specs.World.{World, cell, last_step, next_item, with_entry, committed, next_result, with_commit, numbers_from, cells_of, Offer, offers, lowest, pick_of, after_offer, drained_for}
+use Rattle.cluster.specs.World.{World, cell, last_step, with_entry, committed, next_result, with_commit, numbers_from, Offer, offers, lowest, pick_of, after_offer, drained_for}
 use Rattle.agreement.specs.Simulation.{Simulation, left}
-use Rattle.agreement.proofs.Ports.{same_port_is, same_port_refl, same_port_not, by_test}
-use Rattle.agreement.proofs.Invariant.{Spot, IsIn, IsReceiver, Present}
+use Rattle.sdg_base.proofs.Ports.{same_port-true, same_port-refl}
+use Rattle.agreement.proofs.Invariant.{Spot, IsIn, IsReceiver}
 use Rattle.agreement.proofs.Channels.{bool_cases, port_cases}
-use Rattle.agreement.proofs.Moves.{old_spot, new_spot, number_cases}
+use Rattle.agreement.proofs.Moves.{old_spot, number_cases}
 use Rattle.agreement.proofs.Histories.{AllFit}
 use Rattle.agreement.proofs.Membership.{Among, sum_less, zero_part, in_numbers, among_numbers}
-use Rattle.agreement.proofs.Offers.{lowest_among, none_offered, in_cells, in_senders, result_offered, item_offered, OfResult, OfItem, offered_is, commits_it, takes_it, idle}
+use Rattle.agreement.proofs.Offers.{lowest_among, none_offered, in_cells, in_senders, result_offered, item_offered, offered_is, commits_it, takes_it, idle}
 use Rattle.agreement.proofs.Standings.{Standing, TakenOn, take_stands, commit_stands, committed-same, committed-grows}
 
 -- ---- how much is left of a run
@@ -82,12 +81,12 @@ both false b e f = absurd cc
 pub is_done_is : (commits : List (Port × ℕ)) (spot : Spot) → is_done commits spot ≡ true → (spot.to ≡ port.Sink) × (spot.index < committed spot.from commits)
 is_done_is commits spot e =
     let p = and_right (same_port spot.to port.Sink) (nat_lt spot.index (committed spot.from commits)) e in
-    (same_port_is spot.to port.Sink p.0, ltb-true spot.index (committed spot.from commits) p.1)
+    (same_port-true spot.to port.Sink p.0, ltb-true spot.index (committed spot.from commits) p.1)
 
 pub done_is : (commits : List (Port × ℕ)) (spot : Spot) → spot.to ≡ port.Sink → spot.index < committed spot.from commits → is_done commits spot ≡ true
 done_is commits spot e l =
     both (same_port spot.to port.Sink) (nat_lt spot.index (committed spot.from commits))
-    (let P : Port → Type 0 = λ p. same_port p port.Sink ≡ true in subst P (sym e) (same_port_refl port.Sink)) (lt-ltb spot.index (committed spot.from commits) l)
+    (let P : Port → Type 0 = λ p. same_port p port.Sink ≡ true in subst P (sym e) (same_port-refl port.Sink)) (lt-ltb spot.index (committed spot.from commits) l)
 
 pub still_done : (commits : List (Port × ℕ)) (q : Port) (k : ℕ) (spot : Spot) → is_done commits spot ≡ true → is_done (commits ++ (q, k) ∷ []) spot ≡ true
 still_done commits q k spot e =
@@ -118,7 +117,7 @@ same_at_most a b e = omega arith
 
 -- a call that is not at the sink is not done
 pub not_done : (commits : List (Port × ℕ)) (spot : Spot) → IsCell spot.to → is_done commits spot ≡ false
-not_done commits spot h = by_test (is_done commits spot) (λ e. not_sink spot.to h (is_done_is commits spot e).0)
+not_done commits spot h = false_from_ne_true (is_done commits spot) (λ e. not_sink spot.to h (is_done_is commits spot e).0)
   where
     not_sink : (p : Port) → IsCell p → p ≡ port.Sink → ⊥
     not_sink port.Caller h e = h
@@ -190,7 +189,7 @@ commit_falls s class Agrees w st from x is =
     let f : ℕ → ℕ = λ q. weight after (nth st.now.calls q) (st.place q) in
     let g : ℕ → ℕ = λ q. weight w.commits (nth st.now.calls q) (st.place q) in
     let now_done : is_done after (st.place c) ≡ true = ap (is_done after) r.placed ∙ done_is after spot refl (one_more (committed from w.commits) _ (committed-same from w.commits (committed from w.commits + 1))) in
-    let not_yet : is_done w.commits (st.place c) ≡ false = ap (is_done w.commits) r.placed ∙ by_test (is_done w.commits spot) (λ e. itself (committed from w.commits) (is_done_is w.commits spot e).1) in
+    let not_yet : is_done w.commits (st.place c) ≡ false = ap (is_done w.commits) r.placed ∙ false_from_ne_true (is_done w.commits spot) (λ e. itself (committed from w.commits) (is_done_is w.commits spot e).1) in
     let less : f c < g c =
     falls (f c) (g c) (left_of (nth st.now.calls c)) (ap (weight_at (left_of (nth st.now.calls c))) now_done) (ap (weight_at (left_of (nth st.now.calls c))) not_yet) in
     sum_less f g (call_numbers s) c
@@ -235,7 +234,7 @@ all_done s class Agrees w st as_many none going c call is =
 
     to_cell : (class : Class) (slots : ℕ) (from to : Port) → same_port port.Sink to ≡ false → IsReceiver class slots from to → IsIn class slots to
     to_cell class slots from port.Caller e h = h
-    to_cell class slots from port.Sink e h = let yes = same_port_refl port.Sink in absurd cc
+    to_cell class slots from port.Sink e h = let yes = same_port-refl port.Sink in absurd cc
     to_cell class slots from port.Front e h = h
     to_cell class slots from port.Join e h = h
     to_cell class slots from (port.Slot f n) e h = h
@@ -246,9 +245,10 @@ all_done s class Agrees w st as_many none going c call is =
 pub record Completed (s : Setup) (class : Class) (Agrees : Port → Item → CallState → Type 0) (w : World) : Type 0 where
   pub standing : Standing s class Agrees w
   pub done : (c : ℕ) (call : Call) → nth s.calls c ≡ Some call → is_done w.commits (standing.place c) ≡ true
+  pub nothing_left : lowest (offers s w) ≡ None
 
 pub still_going : (next n : ℕ) → next + suc n < last_step → (next == last_step) ≡ false
-still_going next n l = by_test (next == last_step) (λ e. above next n (eqb-true next last_step e) l)
+still_going next n l = false_from_ne_true (next == last_step) (λ e. above next n (eqb-true next last_step e) l)
   where
     above : (next n : ℕ) → next ≡ last_step → next + suc n < last_step → ⊥
     above next n e l = omega arith
@@ -261,16 +261,31 @@ pub drain_completes : (s : Setup) (class : Class) (Fits : Call → Type 0) (Agre
     → 1 ≤ s.header.slots → Simulation class s.graph s.header.slots Fits Agrees → AllFit Fits s.calls
     → (st : Standing s class Agrees w) → potential s class Agrees w st ≤ n → w.next_step + n < last_step
     → Completed s class Agrees (drained_for n s w)
-drain_completes s class Fits Agrees zero w some sim fit st l below = record {
-  standing = st;
-  done = λ c call is. weight_zero (left_of (nth st.now.calls c)) (is_done w.commits (st.place c))
-      (zero_part (λ q. weight w.commits (nth st.now.calls q) (st.place q)) (call_numbers s) c l (a_number s c call is));
-}
+drain_completes s class Fits Agrees zero w some sim fit st l below =
+    elim (option_cases (lowest (offers s w))) [
+      | inl none ↦ record {
+        standing = st;
+        done = λ c call is. weight_zero (left_of (nth st.now.calls c)) (is_done w.commits (st.place c))
+            (zero_part (λ q. weight w.commits (nth st.now.calls q) (st.place q)) (call_numbers s) c l (a_number s c call is));
+        nothing_left = none;
+      }
+      | inr found ↦
+          let o = found.0 in
+          elim (offered_is s w o (lowest_among (offers s w) o found.1)) [
+            | inl r ↦ absurd (none_lower _ _ (commit_falls s class Agrees w st o.from r.x r.is) l)
+            | inr r ↦
+                let t = take_stands s class Fits Agrees w some sim fit st o.to o.from (pick_of o.call) r.x r.is_cell r.is in
+                absurd (none_lower _ _ (take_falls s class Agrees w st o.to o.from (pick_of o.call) r.x r.is_cell t) l)
+          ]
+    ]
+  where
+    none_lower : (a b : ℕ) → a < b → b ≤ zero → ⊥
+    none_lower a b n l = omega arith
 drain_completes s class Fits Agrees (suc n) w some sim fit st l below =
     elim (option_cases (lowest (offers s w))) [
       | inl none ↦
           let P : World → Type 0 = Completed s class Agrees in
-          subst P (sym (idle s w (suc n) none)) (record { standing = st; done = all_done s class Agrees w st sim.as_many none (still_going w.next_step n below) })
+          subst P (sym (idle s w (suc n) none)) (record { standing = st; done = all_done s class Agrees w st sim.as_many none (still_going w.next_step n below); nothing_left = none })
       | inr found ↦
           let o = found.0 in
           let P : World → Type 0 = λ v. Completed s class Agrees (drained_for n s v) in

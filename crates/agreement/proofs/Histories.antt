@@ -1,7 +1,5 @@
 -- Along a history the source is stepped by what is shown, and agrees with the cells.
-use Rattle.std.proofs.Common.{◌≡◌, ℕ, zero, suc, ◌+◌, ◌<◌, ◌≤◌, ℤ, List, [], ◌∷◌, ◌++◌, map, length, Option, Some, None, ◌⊎◌, inl, inr, slice_get, refl, ap, sym, ◌∙◌, subst, arith, add-one}
-use Rattle.std.specs.List.{flat_map}
-use Rattle.std.proofs.lemmas.List.{append-nil}
+use Rattle.std.proofs.Common.{◌≡◌, ℕ, zero, suc, ◌+◌, ◌≤◌, ℤ, List, [], ◌∷◌, ◌++◌, map, length, Option, Some, slice_get, refl, ap, sym, ◌∙◌, subst, arith}
 use Rattle.sdg_base.specs.declared.call.Call.{Call}
 use Rattle.sdg_base.specs.declared.call.Step.{Step}
 use Rattle.sdg_base.specs.declared.port.Port.{Port}
@@ -10,18 +8,15 @@ use Rattle.sdg_base.specs.declared.item.Item.{Item}
 use Rattle.sdg_base.specs.declared.item.Item.TheVariants as item
 use Rattle.java_tree.specs.declared.tree.Class.{Class}
 use Rattle.state_classes.specs.Contents.{entry_at}
-use Rattle.state_classes.specs.States.{Nothing, OfTable}
-use Rattle.access_blocks.specs.Variables.{Tables}
-use Rattle.access_blocks.specs.Members.{fields, empty_tables}
+use Rattle.access_blocks.specs.Members.{fields}
 use Rattle.access_blocks.specs.Source.{CallState, Fresh, Source, start, nth, step_from, steps_from}
-use Rattle.placement.specs.Slots.{slot}
 use Rattle.task_code.specs.declared.graph.Graph.{Graph}
 use Rattle.task_code.specs.Progress.{Taken, Progress}
-use Rattle.cluster.specs.History.{Setup, Happening, Took, at_start, starts, starts_from, given_at_start, after_entry, after_happening, after_all, cells_after, Follows, HappensAfter, IsHistoryFrom, IsHistory, call_of, shown, steps_of}
-use Rattle.agreement.specs.Simulation.{Simulation, entry_in, entries_in, field_names}
-use Rattle.agreement.proofs.Invariant.{Spot, IsStart, InFlight, Present, SameEntry, Agreement}
+use Rattle.cluster.specs.History.{Setup, Happening, Took, at_start, starts_from, given_at_start, after_entry, after_happening, after_all, Follows, IsHistoryFrom, IsHistory, call_of, shown, steps_of}
+use Rattle.agreement.specs.Simulation.{Simulation, entries_in, field_names}
+use Rattle.agreement.proofs.Invariant.{Spot, InFlight, Present, Agreement}
 use Rattle.agreement.proofs.Channels.{one, entry_steps}
-use Rattle.agreement.proofs.Moves.{Move, moved_place, new_spot, old_spot, now_after, move_agrees}
+use Rattle.agreement.proofs.Moves.{moved_place, new_spot, old_spot, now_after, move_agrees}
 use Rattle.agreement.proofs.Advances.{Advances, advance}
 
 pub itself : (n : ℕ) → n ≤ n

@@ -1,5 +1,5 @@
 -- What holds of cells and of the source that is stepped along with them: each call stands in one place, as the item there says.
-use Rattle.std.proofs.Common.{◌≡◌, ◌≢◌, ℕ, ◌<◌, ◌≤◌, ℤ, List, [], length, Option, Some, None, slice_get}
+use Rattle.std.proofs.Common.{◌≡◌, ℕ, ◌<◌, ◌≤◌, ℤ, List, length, Option, Some, slice_get}
 use Rattle.sdg_base.specs.declared.call.Call.{Call}
 use Rattle.sdg_base.specs.declared.port.Port.{Port}
 use Rattle.sdg_base.specs.declared.port.Port.TheVariants as port
@@ -8,7 +8,7 @@ use Rattle.sdg_base.specs.declared.item.Item.TheVariants as item
 use Rattle.java_tree.specs.declared.tree.Class.{Class}
 use Rattle.state_classes.specs.Entries.{Entries}
 use Rattle.state_classes.specs.Contents.{entry_at}
-use Rattle.state_classes.specs.States.{State, Nothing, OfTable}
+use Rattle.state_classes.specs.States.{Nothing, OfTable}
 use Rattle.access_blocks.specs.Members.{fields}
 use Rattle.access_blocks.specs.Source.{CallState, Source, nth}
 use Rattle.placement.specs.Slots.{slot}

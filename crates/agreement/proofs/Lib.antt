@@ -1,5 +1,3 @@
-mod Ports
-mod Lists
 mod Invariant
 mod Channels
 mod Moves

@@ -1,6 +1,6 @@
 -- One call moves: a cell took its item and gave one item, and the source moved the call. Everything else stays in its place.
-use Rattle.std.proofs.Common.{◌≡◌, ◌≢◌, ℕ, zero, suc, ◌+◌, ◌<◌, ◌≤◌, ℤ, Bool, true, false, cond, ◌==◌, List, [], ◌∷◌, ◌++◌, length, Option, Some, None, ◌⊎◌, inl, inr, slice_get, slice_set, if◌then◌else◌, refl, ap, sym, ◌∙◌, subst, arith, length-append}
-use Rattle.std.proofs.lemmas.Bool.{eqb-true, eq-eqb}
+use Rattle.std.proofs.Common.{◌≡◌, ◌≢◌, ℕ, zero, suc, ◌<◌, ◌≤◌, ℤ, Bool, true, false, ◌==◌, List, length, Some, ◌⊎◌, inl, inr, slice_get, if◌then◌else◌, refl, ap, sym, ◌∙◌, subst, arith}
+use Rattle.std.proofs.lemmas.Bool.{eqb-true, eq-eqb, false_from_ne_true}
 use Rattle.std.proofs.lemmas.Option.{same_Some, slice_get_within}
 use Rattle.sdg_base.specs.declared.call.Call.{Call}
 use Rattle.sdg_base.specs.declared.port.Port.{Port}
@@ -15,8 +15,8 @@ use Rattle.access_blocks.specs.Source.{CallState, Source, nth, with_state}
 use Rattle.task_code.specs.Progress.{Progress}
 use Rattle.cluster.specs.History.{call_of}
 use Rattle.agreement.specs.Simulation.{field_names}
-use Rattle.agreement.proofs.Lists.{set_same, set_other, set_as_many}
-use Rattle.agreement.proofs.Ports.{by_test, same_port_not}
+use Rattle.cluster.proofs.Lists.{set_same, set_other, set_as_many}
+use Rattle.sdg_base.proofs.Ports.{same_port-other}
 use Rattle.agreement.proofs.Invariant.{Spot, item_at, IsAhead, IsIn, IsSender, IsReceiver, IsStart, InFlight, Present, SameEntry, Agreement}
 use Rattle.agreement.proofs.Channels.{one, stepped, stepped_other, bool_cases, given_cases, given_stays, output_is, ahead_before, ahead_still, bounded_still}
 
@@ -45,7 +45,7 @@ pub moved_here : (c q : ℕ) (spot : Spot) (place : ℕ → Spot) → q ≡ c �
 moved_here c q spot place e = ap (λ (b : Bool). if b then spot else place q) (eq-eqb q c e)
 
 pub not_moved : (c q : ℕ) (spot : Spot) (place : ℕ → Spot) → q ≢ c → moved_place c spot place q ≡ place q
-not_moved c q spot place ne = ap (λ (b : Bool). if b then spot else place q) (by_test (q == c) (λ e. ne (eqb-true q c e)))
+not_moved c q spot place ne = ap (λ (b : Bool). if b then spot else place q) (false_from_ne_true (q == c) (λ e. ne (eqb-true q c e)))
 
 apart : (p q : ℕ) → (p == q) ≡ false → p ≡ q → ⊥
 apart p q e same = let yes : (p == q) ≡ true = eq-eqb p q same in absurd cc
@@ -118,17 +118,17 @@ in_sends class slots (port.Inst f s) h = h
 not_the_sink : (class : Class) (slots : ℕ) (p : Port) → IsIn class slots p → same_port p port.Sink ≡ false
 not_the_sink class slots port.Caller h = absurd h
 not_the_sink class slots port.Sink h = absurd h
-not_the_sink class slots port.Front h = same_port_not port.Front port.Sink (λ e. absurd cc)
+not_the_sink class slots port.Front h = same_port-other port.Front port.Sink (λ e. absurd cc)
 not_the_sink class slots port.Join h = absurd h
-not_the_sink class slots (port.Slot f s) h = same_port_not (port.Slot f s) port.Sink (λ e. absurd cc)
+not_the_sink class slots (port.Slot f s) h = same_port-other (port.Slot f s) port.Sink (λ e. absurd cc)
 not_the_sink class slots (port.Inst f s) h = absurd h
 
 not_the_caller : (class : Class) (slots : ℕ) (p : Port) → IsIn class slots p → same_port p port.Caller ≡ false
 not_the_caller class slots port.Caller h = absurd h
 not_the_caller class slots port.Sink h = absurd h
-not_the_caller class slots port.Front h = same_port_not port.Front port.Caller (λ e. absurd cc)
+not_the_caller class slots port.Front h = same_port-other port.Front port.Caller (λ e. absurd cc)
 not_the_caller class slots port.Join h = absurd h
-not_the_caller class slots (port.Slot f s) h = same_port_not (port.Slot f s) port.Caller (λ e. absurd cc)
+not_the_caller class slots (port.Slot f s) h = same_port-other (port.Slot f s) port.Caller (λ e. absurd cc)
 not_the_caller class slots (port.Inst f s) h = absurd h
 
 -- the items ahead, after the move

@@ -1,8 +1,7 @@
 -- Which items are offered, and which of them is taken next.
-use Rattle.std.proofs.Common.{◌≡◌, ℕ, zero, suc, ◌+◌, ◌-◌, ◌^◌, ◌<◌, ◌≤◌, Bool, true, false, ◌==◌, List, [], ◌∷◌, ◌++◌, map, length, Option, Some, None, ◌⊎◌, inl, inr, slice_get, if◌then◌else◌, refl, ap, sym, ◌∙◌, subst, arith}
+use Rattle.std.proofs.Common.{◌≡◌, ℕ, zero, suc, ◌+◌, ◌<◌, ◌≤◌, Bool, true, false, ◌==◌, List, [], ◌∷◌, map, length, Option, Some, None, ◌⊎◌, inl, inr, if◌then◌else◌, refl, ap, sym, ◌∙◌, subst, arith}
 use Rattle.std.specs.Prelude.{nat_lt}
 use Rattle.std.specs.List.{flat_map, filter_map}
-use Rattle.std.proofs.lemmas.Bool.{eqb-true}
 use Rattle.sdg_base.specs.declared.port.Port.{Port}
 use Rattle.sdg_base.specs.declared.port.Port.TheVariants as port
 use Rattle.sdg_base.specs.declared.item.Item.{Item}
@@ -10,12 +9,10 @@ use Rattle.java_tree.specs.declared.tree.Class.{Class}
 use Rattle.access_blocks.specs.Members.{fields}
 use Rattle.placement.specs.declared.event.Event.TheVariants as event
 use Rattle.placement.specs.declared.event.Word.TheVariants as word
-use Rattle.task_code.specs.Progress.{Progress}
 use Rattle.cluster.specs.History.{Setup, call_of, IsCell}
-use Rattle.cluster.specs.World.{World, cell, last_step, next_item, with_entry, take_item, next_result, with_commit, commit_item, event_of, numbers_from, cells_of, Offer, offer, cell_offer, sink_offer, offers, lower, lowest_from, lowest, pick_of, take_event, event_for, after_offer, drained_for}
+use Rattle.cluster.specs.World.{World, last_step, next_item, with_entry, take_item, next_result, with_commit, commit_item, event_of, numbers_from, cells_of, Offer, offer, cell_offer, sink_offer, offers, lower, lowest_from, lowest, pick_of, take_event, after_offer, drained_for}
 use Rattle.agreement.proofs.Invariant.{IsIn, IsSender}
-use Rattle.agreement.proofs.Channels.{bool_cases}
-use Rattle.agreement.proofs.Membership.{Among, among_left, among_right, among_either, among_map, among_flat, in_flat, in_filter, among_filter, among_numbers, in_numbers}
+use Rattle.agreement.proofs.Membership.{Among, among_left, among_right, among_either, among_map, among_flat, in_flat, in_filter, among_filter, among_numbers}
 
 -- ---- the lowest of some offers
 

@@ -1,33 +1,29 @@
 -- The results of a run are the outcomes of the source, and each call has one.
-use Rattle.std.proofs.Common.{◌≡◌, ◌≢◌, ℕ, zero, suc, ◌+◌, ◌*◌, ◌-◌, ◌^◌, ◌<◌, ◌≤◌, Bool, true, false, ◌&&◌, ◌==◌, List, [], ◌∷◌, ◌++◌, map, length, Option, Some, None, ◌⊎◌, inl, inr, slice_get, if◌then◌else◌, refl, ap, sym, ◌∙◌, subst, arith}
-use Rattle.std.specs.Prelude.{sum_by}
+use Rattle.std.proofs.Common.{◌≡◌, ◌≢◌, ℕ, zero, suc, ◌+◌, ◌*◌, ◌-◌, ◌<◌, ◌≤◌, Bool, true, false, ◌==◌, List, [], ◌∷◌, ◌++◌, map, length, Option, Some, None, ◌⊎◌, inl, inr, slice_get, if◌then◌else◌, refl, ap, sym, ◌∙◌, subst, arith}
 use Rattle.std.specs.List.{AllByRecursion, filter_map, cons_option}
-use Rattle.std.proofs.lemmas.Option.{slice_get_within, same_Some}
+use Rattle.std.proofs.lemmas.Option.{same_Some}
 use Rattle.sdg_base.specs.declared.val.Outcome.{Outcome}
 use Rattle.sdg_base.specs.declared.call.Call.{Call}
 use Rattle.sdg_base.specs.declared.port.Port.{Port}
 use Rattle.sdg_base.specs.declared.port.Port.TheVariants as port
 use Rattle.sdg_base.specs.declared.item.Item.{Item}
 use Rattle.sdg_base.specs.declared.item.Item.TheVariants as item
-use Rattle.sdg_base.specs.Ports.{same_port}
 use Rattle.java_tree.specs.declared.tree.Class.{Class}
-use Rattle.access_blocks.specs.Source.{CallState, Fresh, At, Ended, Source, start, nth, steps_from, source, outcome, outcome_in, Explains}
+use Rattle.access_blocks.specs.Source.{CallState, Fresh, At, Ended, Source, start, nth, outcome, outcome_in, Explains}
 use Rattle.placement.specs.declared.event.Event.{Event}
 use Rattle.placement.specs.declared.event.Event.TheVariants as event
 use Rattle.placement.specs.declared.event.Word.{Word}
 use Rattle.placement.specs.declared.event.Word.TheVariants as word
-use Rattle.task_code.specs.Progress.{Progress}
 use Rattle.cluster.specs.History.{Setup, IsCell, call_of, steps_of}
-use Rattle.cluster.specs.World.{World, first_world, cell, last_step, next_item, with_entry, take_item, committed, next_result, with_commit, commit_item, event_of, after_events, numbers_from, most_events, drained_for, world_of, result_in, result_of, results_of}
-use Rattle.agreement.specs.Simulation.{Simulation, Fitting, left}
-use Rattle.agreement.specs.Results.{HasResult, AreOnce, AreOneEach, RunAgrees, IsForCell, AreEnoughSteps}
-use Rattle.agreement.proofs.Ports.{same_port_is}
+use Rattle.cluster.specs.World.{World, first_world, cell, last_step, next_item, take_item, committed, next_result, commit_item, event_of, after_events, numbers_from, most_events, world_of, result_in, result_of, results_of}
+use Rattle.agreement.specs.Simulation.{Simulation, Fitting}
+use Rattle.agreement.specs.Results.{HasResult, AreOnce, RunAgrees, IsForCell, AreEnoughSteps}
 use Rattle.agreement.proofs.Invariant.{Spot}
-use Rattle.agreement.proofs.Channels.{bool_cases, port_cases}
+use Rattle.agreement.proofs.Channels.{port_cases}
 use Rattle.agreement.proofs.Histories.{AllFit}
-use Rattle.agreement.proofs.Membership.{Among, among_left, among_right, among_either, in_filter, among_filter, sum_bound, in_numbers}
+use Rattle.agreement.proofs.Membership.{Among, among_left, among_right, among_either, among_filter, sum_bound, in_numbers}
 use Rattle.agreement.proofs.Standings.{AreCommits, NoCommits, OneMore, Standing, first_stands, first_now, take_stands, commit_stands, committed-same, committed-other, committed-grows}
-use Rattle.agreement.proofs.Completion.{is_done, is_done_is, left_of, weight, weight_at, call_numbers, potential, a_number, a_call, number_of, there, take_falls, commit_falls, Completed, drain_completes}
+use Rattle.agreement.proofs.Completion.{is_done, is_done_is, left_of, weight, weight_at, call_numbers, potential, number_of, there, take_falls, commit_falls, Completed, drain_completes}
 
 -- ---- lists of commits
 
@@ -267,6 +263,7 @@ completed_agrees s class Fits Agrees w sim done =
             let P : ℕ × Outcome → Type 0 = λ z. (1 ≤ z.0) × (z.0 ≤ length s.calls) in
             subst P (sym (same_result (result_of s w c) r (k.call, k.how) k.is e)) (call_in_range s k.call k.number)));
       };
+      nothing_left = done.nothing_left;
     }
   where
     call_at : (s : Setup) (c : ℕ) → 1 ≤ c → c ≤ length s.calls → (call : Call) × (nth s.calls c ≡ Some call)

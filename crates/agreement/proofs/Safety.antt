@@ -1,8 +1,7 @@
 -- No item of an accepted class goes wrong.
-use Rattle.std.proofs.Common.{◌≡◌, ◌≢◌, ℕ, zero, suc, ◌+◌, ◌<◌, ◌≤◌, ℤ, List, [], ◌∷◌, map, length, Option, Some, None, slice_get, refl, ap, sym, ◌∙◌, subst, arith}
+use Rattle.std.proofs.Common.{◌≡◌, ℕ, zero, suc, ◌+◌, ◌<◌, ℤ, List, [], ◌∷◌, map, length, Some, slice_get, refl, ap, sym, subst, arith}
 use Rattle.std.specs.List.{AllByRecursion}
 use Rattle.sdg_base.specs.declared.val.Val.{Val}
-use Rattle.sdg_base.specs.declared.val.Outcome.{Outcome}
 use Rattle.sdg_base.specs.declared.call.Call.{Call}
 use Rattle.sdg_base.specs.declared.port.Port.{Port}
 use Rattle.sdg_base.specs.declared.port.Port.TheVariants as port
@@ -15,13 +14,13 @@ use Rattle.state_classes.specs.Contents.{entry_at}
 use Rattle.state_classes.specs.States.{State, Nothing, OfTable}
 use Rattle.access_blocks.specs.Variables.{Variables, Tables}
 use Rattle.access_blocks.specs.Members.{fields}
-use Rattle.access_blocks.specs.Source.{CallState, Fresh, At, Ended, nth, state_of}
+use Rattle.access_blocks.specs.Source.{CallState, Fresh, At, state_of}
 use Rattle.access_blocks.specs.Blocks.{Place, AtMark, AtEnd}
 use Rattle.task_code.specs.declared.graph.Graph.{Graph}
 use Rattle.task_code.specs.Machine.{Ran, runs}
 use Rattle.task_code.specs.Safe.{IsStateOf, IsSafeFor, IsSafe}
 use Rattle.cluster.specs.History.{starts, starts_from}
-use Rattle.agreement.specs.Simulation.{Simulation, Begins, Continues, Fitting, entries_in, entry_in, field_names}
+use Rattle.agreement.specs.Simulation.{Simulation, Fitting, entries_in, field_names}
 use Rattle.agreement.proofs.Histories.{AllFit}
 
 -- tables that all hold these entries

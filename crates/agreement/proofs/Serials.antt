@@ -1,9 +1,9 @@
 -- Without a schedule calls run one after the other: the run to completion finishes a call before it begins the next.
-use Rattle.std.proofs.Common.{◌≡◌, ◌≢◌, ℕ, zero, suc, ◌+◌, ◌*◌, ◌-◌, ◌^◌, ◌<◌, ◌≤◌, Bool, true, false, ◌&&◌, ◌==◌, List, [], ◌∷◌, ◌++◌, map, length, Option, Some, None, ◌⊎◌, inl, inr, slice_get, if◌then◌else◌, refl, ap, sym, ◌∙◌, subst, arith, length-append}
+use Rattle.std.proofs.Common.{◌≡◌, ◌≢◌, ℕ, zero, suc, ◌+◌, ◌-◌, ◌<◌, ◌≤◌, Bool, true, false, ◌==◌, List, [], ◌∷◌, ◌++◌, map, length, Option, Some, ◌⊎◌, inl, inr, slice_get, if◌then◌else◌, refl, ap, sym, ◌∙◌, subst, arith, length-append}
 use Rattle.std.specs.Prelude.{nat_lt}
 use Rattle.std.specs.List.{AllByRecursion, filter_map, cons_option}
 use Rattle.std.proofs.lemmas.Option.{slice_get_within, same_Some}
-use Rattle.std.proofs.lemmas.Bool.{eqb-true, ltb-true, ltb-false}
+use Rattle.std.proofs.lemmas.Bool.{ltb-true, ltb-false, false_from_ne_true}
 use Rattle.std.proofs.lemmas.List.{append-nil}
 use Rattle.sdg_base.specs.declared.val.Outcome.{Outcome}
 use Rattle.sdg_base.specs.declared.call.Call.{Call}
@@ -19,18 +19,18 @@ use Rattle.access_blocks.specs.Serial.{IsNotEarlier, IsSerial}
 use Rattle.access_blocks.specs.Source.{CallState, nth}
 use Rattle.task_code.specs.Progress.{Progress}
 use Rattle.cluster.specs.History.{Setup, Took, IsCell, given_at_start, call_of, shown_entry, shown, steps_of}
-use Rattle.cluster.specs.World.{World, first_world, cell, last_step, next_item, entry, with_entry, committed, next_result, with_commit, numbers_from, cells_of, Offer, offers, lower, lowest_from, lowest, pick_of, after_offer, drained_for, world_of, most_events, result_of, results_of}
+use Rattle.cluster.specs.World.{World, first_world, cell, last_step, next_item, entry, with_entry, committed, next_result, with_commit, numbers_from, Offer, offers, lower, lowest_from, lowest, pick_of, after_offer, drained_for, world_of, most_events, result_of, results_of}
 use Rattle.agreement.specs.Simulation.{Simulation}
 use Rattle.agreement.specs.Results.{AreEnoughSteps}
-use Rattle.agreement.proofs.Ports.{same_port_refl, by_test}
-use Rattle.agreement.proofs.Invariant.{Spot, item_at, IsAhead, IsIn, IsReceiver, Present}
-use Rattle.agreement.proofs.Channels.{bool_cases, port_cases}
-use Rattle.agreement.proofs.Moves.{old_spot, new_spot, number_cases}
+use Rattle.sdg_base.proofs.Ports.{same_port-refl}
+use Rattle.agreement.proofs.Invariant.{Spot, item_at, IsIn, IsReceiver, Present}
+use Rattle.agreement.proofs.Channels.{port_cases}
+use Rattle.agreement.proofs.Moves.{new_spot}
 use Rattle.agreement.proofs.Histories.{AllFit, first_place, steps_of-append, starts_are}
 use Rattle.agreement.proofs.Membership.{Among, in_numbers, zero_part}
-use Rattle.agreement.proofs.Offers.{lowest_among, none_offered, in_cells, in_senders, result_offered, item_offered, OfResult, OfItem, offered_is, commits_it, takes_it, idle}
+use Rattle.agreement.proofs.Offers.{lowest_among, in_cells, in_senders, result_offered, item_offered, offered_is, commits_it, takes_it, idle}
 use Rattle.agreement.proofs.Standings.{Standing, TakenOn, first_stands, first_now, committed-same, take_stands, commit_stands}
-use Rattle.agreement.proofs.Completion.{is_done, is_done_is, done_is, left_of, weight, weight_zero, a_number, not_done, still_done, still_going, option_cases, call_numbers, potential, take_falls, commit_falls, next_in_flight, all_done, a_call, number_of, there, nth_within, Completed}
+use Rattle.agreement.proofs.Completion.{is_done, is_done_is, done_is, left_of, weight, weight_zero, a_number, not_done, still_done, still_going, option_cases, call_numbers, potential, take_falls, commit_falls, next_in_flight, all_done, a_call, number_of, there}
 use Rattle.agreement.proofs.Outcomes.{ResultKnown, result_known, first_potential}
 
 -- ---- the lowest offer is the least
@@ -220,7 +220,7 @@ ahead_not_before s class Agrees w st c at spot x placed number not =
     later a c l = omega arith
 
 not_done_at : (commits : List (Port × ℕ)) (from : Port) → is_done commits (record { from = from; to = port.Sink; index = committed from commits }) ≡ false
-not_done_at commits from = by_test (is_done commits spot) (λ e. itself (committed from commits) (is_done_is commits spot e).1)
+not_done_at commits from = false_from_ne_true (is_done commits spot) (λ e. itself (committed from commits) (is_done_is commits spot e).1)
   where
     spot : Spot
     spot = record { from = from; to = port.Sink; index = committed from commits }
@@ -353,7 +353,7 @@ call_offered s class Agrees w st c call as_many at most is_call running =
 
     to_cell : (class : Class) (slots : ℕ) (from to : Port) → same_port port.Sink to ≡ false → IsReceiver class slots from to → IsIn class slots to
     to_cell class slots from port.Caller e h = h
-    to_cell class slots from port.Sink e h = let yes = same_port_refl port.Sink in absurd cc
+    to_cell class slots from port.Sink e h = let yes = same_port-refl port.Sink in absurd cc
     to_cell class slots from port.Front e h = h
     to_cell class slots from port.Join e h = h
     to_cell class slots from (port.Slot f n) e h = h
@@ -429,7 +429,7 @@ serial_commit s class Agrees w st c from x is at most is_c =
 -- a place at the end of a channel holds nothing that was committed
 new_not_done : (s : Setup) (class : Class) (Agrees : Port → Item → CallState → Type 0) (w : World) (st : Standing s class Agrees w) (to receiver : Port) → is_done w.commits (new_spot to receiver (λ p. cell s w p)) ≡ false
 new_not_done s class Agrees w st to receiver =
-    by_test (is_done w.commits (new_spot to receiver (λ p. cell s w p))) (λ e.
+    false_from_ne_true (is_done w.commits (new_spot to receiver (λ p. cell s w p))) (λ e.
     (let d = is_done_is w.commits (new_spot to receiver (λ p. cell s w p)) e in
     beyond (length ((cell s w to).gave receiver)) (committed to w.commits) d.1
     (let P : Port → Type 0 = λ p. committed to w.commits ≤ length ((cell s w to).gave p) in subst P (sym d.0) (st.within to))))

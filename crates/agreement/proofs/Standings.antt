@@ -1,5 +1,5 @@
 -- Worlds that events reach: the source that was stepped along, and what each event makes of it.
-use Rattle.std.proofs.Common.{◌≡◌, ◌≢◌, ℕ, zero, suc, ◌+◌, ◌-◌, ◌<◌, ◌≤◌, Bool, true, false, ◌&&◌, ◌==◌, List, [], ◌∷◌, ◌++◌, length, Option, Some, None, ◌⊎◌, inl, inr, slice_get, if◌then◌else◌, refl, ap, sym, ◌∙◌, subst, arith}
+use Rattle.std.proofs.Common.{◌≡◌, ◌≢◌, ℕ, ◌+◌, ◌<◌, ◌≤◌, Bool, true, false, List, [], ◌∷◌, ◌++◌, length, Option, Some, inl, inr, if◌then◌else◌, refl, ap, sym, ◌∙◌, subst, arith}
 use Rattle.std.proofs.lemmas.Option.{slice_get_within}
 use Rattle.std.proofs.lemmas.List.{append-nil}
 use Rattle.sdg_base.specs.declared.call.Call.{Call}
@@ -10,15 +10,14 @@ use Rattle.sdg_base.specs.Ports.{same_port}
 use Rattle.java_tree.specs.declared.tree.Class.{Class}
 use Rattle.state_classes.specs.States.{State}
 use Rattle.access_blocks.specs.Source.{CallState, Source, start, nth, steps_from}
-use Rattle.task_code.specs.Progress.{Taken, Progress}
-use Rattle.cluster.specs.History.{Setup, Happening, Took, IsCell, after_entry, after_happening, after_all, at_start, cells_after, Follows, HappensAfter, IsHistoryFrom, IsHistory, call_of, shown, steps_of}
+use Rattle.task_code.specs.Progress.{Progress}
+use Rattle.cluster.specs.History.{Setup, Happening, Took, IsCell, after_happening, after_all, at_start, Follows, HappensAfter, IsHistoryFrom, IsHistory, call_of, shown, steps_of}
 use Rattle.cluster.specs.World.{World, first_world, cell, next_item, entry, with_entry, committed, next_result, with_commit}
 use Rattle.agreement.specs.Simulation.{Simulation, left}
-use Rattle.agreement.proofs.Ports.{same_port_refl, same_port_is, same_port_not}
-use Rattle.agreement.proofs.Invariant.{Spot, InFlight, Agreement}
-use Rattle.agreement.proofs.Channels.{one, stepped, stepped_own, stepped_other, entry_steps, bool_cases, port_cases, gave_longer}
+use Rattle.sdg_base.proofs.Ports.{same_port-refl}
+use Rattle.agreement.proofs.Invariant.{Spot, Agreement}
+use Rattle.agreement.proofs.Channels.{one, stepped, entry_steps, bool_cases, port_cases, gave_longer}
 use Rattle.agreement.proofs.Moves.{Move, moved_place, new_spot, old_spot, now_after, move_agrees, nth_same, nth_other, not_moved, moved_here}
-use Rattle.agreement.proofs.Advances.{Advances}
 use Rattle.agreement.proofs.Histories.{AllFit, first_place, start_agrees, flight_of, entry_advances, steps_from-append, steps_of-append}
 
 -- ---- a history with one happening more
@@ -50,7 +49,7 @@ committed-push p (x ∷ commits) c =
     swap false false n = refl
 
 pub committed-same : (p : Port) (commits : List (Port × ℕ)) (k : ℕ) → committed p (commits ++ (p, k) ∷ []) ≡ committed p commits + 1
-committed-same p commits k = committed-push p commits (p, k) ∙ ap (λ (b : Bool). if b then committed p commits + 1 else committed p commits) (same_port_refl p)
+committed-same p commits k = committed-push p commits (p, k) ∙ ap (λ (b : Bool). if b then committed p commits + 1 else committed p commits) (same_port-refl p)
 
 pub committed-other : (p q : Port) (commits : List (Port × ℕ)) (k : ℕ) → same_port q p ≡ false → committed p (commits ++ (q, k) ∷ []) ≡ committed p commits
 committed-other p q commits k e = committed-push p commits (q, k) ∙ ap (λ (b : Bool). if b then committed p commits + 1 else committed p commits) e

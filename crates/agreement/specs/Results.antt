@@ -1,5 +1,5 @@
 -- What a run's results and history are to be: one result for each call, and a legal history of the source that gives them.
-use Rattle.std.specs.Prelude.{◌≡◌, ◌≢◌, ℕ, ◌+◌, ◌*◌, ◌<◌, ◌≤◌, ◌⊎◌, List, [], ◌∷◌, length}
+use Rattle.std.specs.Prelude.{◌≡◌, ◌≢◌, ℕ, ◌+◌, ◌<◌, ◌≤◌, ◌⊎◌, List, [], ◌∷◌, length, None}
 use Rattle.std.specs.List.{AllByRecursion}
 use Rattle.sdg_base.specs.declared.val.Outcome.{Outcome}
 use Rattle.placement.specs.declared.event.Event.{Event}
@@ -7,7 +7,7 @@ use Rattle.placement.specs.declared.event.Event.TheVariants as event
 use Rattle.java_tree.specs.declared.tree.Class.{Class}
 use Rattle.access_blocks.specs.Source.{Explains}
 use Rattle.cluster.specs.History.{Setup, IsCell, steps_of}
-use Rattle.cluster.specs.World.{World, last_step, results_of, most_events}
+use Rattle.cluster.specs.World.{World, last_step, offers, lowest, results_of, most_events}
 
 abbrev pub Results : Type 0
 Results = List (ℕ × Outcome)
@@ -28,10 +28,11 @@ pub record AreOneEach (calls : ℕ) (results : Results) : Type 0 where
   pub once : AreOnce results
   pub only : AllByRecursion (λ r. (1 ≤ r.0) × (r.0 ≤ calls)) results
 
--- The history is legal for the source, the results are its outcomes, and each call has one.
+-- The history is legal for the source, the results are its outcomes, each call has one, and the run went to completion.
 pub record RunAgrees (class : Class) (s : Setup) (w : World) : Type 0 where
   pub explained : Explains class s.calls (steps_of w.hist) (results_of s w)
   pub one_each : AreOneEach (length s.calls) (results_of s w)
+  pub nothing_left : lowest (offers s w) ≡ None
 
 -- an event whose receiver is a cell
 abbrev pub IsForCell : Event → Type 0

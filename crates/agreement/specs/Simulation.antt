@@ -1,7 +1,6 @@
 -- What joins one step of the annotated source and one item that a cell takes.
 use Rattle.std.specs.Prelude.{◌≡◌, ◌≢◌, ℕ, ◌+◌, ◌<◌, ℤ, List, [], ◌∷◌, length, map, Option, Some, None, slice_get}
 use Rattle.sdg_base.specs.declared.val.Val.{Val}
-use Rattle.sdg_base.specs.declared.val.Val.TheVariants as val
 use Rattle.sdg_base.specs.declared.call.Call.{Call}
 use Rattle.sdg_base.specs.declared.port.Port.{Port}
 use Rattle.sdg_base.specs.declared.port.Port.TheVariants as port

@@ -15,7 +15,7 @@ use Rattle.task_code.specs.Safe.{IsStateOf, IsSafeFor, IsSafe}
 use Rattle.cluster.specs.History.{Setup, Happening, at_start, starts, given_at_start, after_entry, IsCell, Follows, IsHistory, cells_after}
 use Rattle.cluster.specs.Results.{IsEnd}
 use Rattle.cluster.proofs.Lists.{all_append, all_at}
-use Rattle.cluster.proofs.SamePorts.{same_port_is}
+use Rattle.sdg_base.proofs.Ports.{same_port-true}
 use Rattle.cluster.proofs.Histories.{holds_along, after_by, after_cases}
 use Rattle.cluster.proofs.Outputs.{IsGiven, AreFew, GivesFew, runs_gives}
 
@@ -76,7 +76,7 @@ outputs_safe : (graph : Graph) (slots : ℕ) (os : List (Port × Item)) (to : Po
     → AllByRecursion (IsSafe graph slots to) (outputs_to to os)
 outputs_safe graph slots [] to safe = tt
 outputs_safe graph slots (o ∷ os) to safe =
-    output_safe graph slots (same_port o.0 to) o os to (λ (is : same_port o.0 to ≡ true). same_port_is o.0 to is) (λ (n : ℕ). (safe n).0) (outputs_safe graph slots os to (λ (n : ℕ). (safe n).1))
+    output_safe graph slots (same_port o.0 to) o os to (λ (is : same_port o.0 to ≡ true). same_port-true o.0 to is) (λ (n : ℕ). (safe n).0) (outputs_safe graph slots os to (λ (n : ℕ). (safe n).1))
   where
     output_safe : (graph : Graph) (slots : ℕ) (b : Bool) (o : Port × Item) (os : List (Port × Item)) (to : Port) → (b ≡ true → o.0 ≡ to) → ((n : ℕ) → IsSafeFor graph slots n o.0 o.1)
         → AllByRecursion (IsSafe graph slots to) (outputs_to to os) → AllByRecursion (IsSafe graph slots to) (if b then o.1 ∷ outputs_to to os else outputs_to to os)
@@ -139,7 +139,7 @@ step_quiet : (s : Setup) (n : ℕ) (cells : Port → Progress) (e : Taken) → F
     → (p : Port) → (IsCell p → ⊥) → after_entry s e cells p ≡ at_start s.calls p
 step_quiet s n cells e follows now p not_cell =
     after_cases (λ (q : Progress). q ≡ at_start s.calls p) s e cells p
-    (λ (is : same_port e.cell p ≡ true). absurd (not_cell (subst IsCell (same_port_is e.cell p is) follows.is_cell)))
+    (λ (is : same_port e.cell p ≡ true). absurd (not_cell (subst IsCell (same_port-true e.cell p is) follows.is_cell)))
     (λ _. now.quiet p not_cell)
 
 step_holds : (s : Setup) (n : ℕ) (cells : Port → Progress) (e : Taken) → Follows cells e → Along s n cells

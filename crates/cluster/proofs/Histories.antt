@@ -3,7 +3,7 @@ use Rattle.std.proofs.Common.{◌≡◌, ℕ, ◌+◌, Bool, true, false, if◌t
 use Rattle.sdg_base.specs.declared.port.Port.{Port}
 use Rattle.sdg_base.specs.Ports.{same_port}
 use Rattle.task_code.specs.Progress.{Taken, Progress, progress_after}
-use Rattle.cluster.proofs.SamePorts.{same_port_is}
+use Rattle.sdg_base.proofs.Ports.{same_port-true}
 use Rattle.cluster.specs.History.{Setup, Happening, Took, after_entry, after_happening, after_all, Follows, HappensAfter, IsHistoryFrom}
 
 -- what each port has come to after one happening more
@@ -43,4 +43,4 @@ pub after_by : (P : Port → Progress → Type 0) (s : Setup) (e : Taken) (cells
     → P e.cell (progress_after s.graph s.header.slots e (cells e.cell)) → P p (cells p) → P p (after_entry s e cells p)
 after_by P s e cells p own other =
     let Q : Port → Type 0 = λ q. P q (progress_after s.graph s.header.slots e (cells q)) in
-    after_cases (P p) s e cells p (λ (is : same_port e.cell p ≡ true). subst Q (same_port_is e.cell p is) own) (λ _. other)
+    after_cases (P p) s e cells p (λ (is : same_port e.cell p ≡ true). subst Q (same_port-true e.cell p is) own) (λ _. other)

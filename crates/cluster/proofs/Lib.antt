@@ -3,12 +3,11 @@ mod Begins
 mod Building
 mod Draining
 mod Histories
-mod Lists
+pub mod Lists
 mod Lowest
 mod Offers
 mod Outputs
 mod Places
 mod Reading
-mod SamePorts
 mod Stands
 mod Worlds

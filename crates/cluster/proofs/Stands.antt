@@ -2,7 +2,7 @@
 use Rattle.std.proofs.Common.{◌≡◌, ◌≢◌, ℕ, zero, suc, ◌+◌, ◌-◌, ◌<◌, ◌≤◌, ◌==◌, Bool, true, false, if◌then◌else◌, List, [], ◌∷◌, ◌++◌, length, map, drop, Option, Some, None, slice_get, slice_set, refl, ap, ◌∙◌, sym, subst, arith, length-drop}
 use Rattle.std.specs.Option.{option_map}
 use Rattle.std.proofs.lemmas.List.{map-append}
-use Rattle.std.proofs.lemmas.Bool.{eqb-true, eq-eqb, false≢true}
+use Rattle.std.proofs.lemmas.Bool.{eqb-true, eq-eqb, false≢true, false_from_ne_true}
 use Rattle.std.proofs.lemmas.Option.{slice_get-map, slice_get_within}
 use Rattle.sdg_base.specs.declared.port.Port.{Port}
 use Rattle.sdg_base.specs.declared.port.Port.TheVariants as port
@@ -23,7 +23,7 @@ use Rattle.cluster.specs.History.{Setup, Took}
 use Rattle.cluster.specs.World.{World, cell, cells_of, next_item, entry, with_entry, committed, next_result, with_commit, results_of, last_step}
 use Rattle.cluster.specs.Standing.{StandsForCell, StandsFor, Holds, IsCellOf, place_of, past, dropped}
 use Rattle.cluster.proofs.Lists.{set_same, set_other}
-use Rattle.cluster.proofs.SamePorts.{same_port_refl, same_port_is, by_test}
+use Rattle.sdg_base.proofs.Ports.{same_port-refl, same_port-true}
 use Rattle.cluster.proofs.Places.{placed, at_place, own_cell, any_cell}
 use Rattle.cluster.proofs.Worlds.{cell-with_entry, reached-with_entry, results-with_entry, reached-with_commit, results-with_commit, committed-push}
 
@@ -78,10 +78,10 @@ one_changed P items at old new there own others i h e = by_place (i == at) (eqb-
 -- The ports of two places differ.
 other_port : (c : Cluster) (s : Setup) (w : World) (p : Port) (i : ℕ) (h : PortCell) → StandsFor c s w → slice_get c.cells.items i ≡ Some h → i ≢ place_of s.header.slots p → same_port p h.port ≡ false
 other_port c s w p i h stands e other =
-    by_test (same_port p h.port)
+    false_from_ne_true (same_port p h.port)
     (λ (t : same_port p h.port ≡ true).
     let place : place_of s.header.slots h.port ≡ i = (placed s i h.port (port_at c s w i h stands e)).0 in
-    other (sym place ∙ ap (place_of s.header.slots) (sym (same_port_is p h.port t))))
+    other (sym place ∙ ap (place_of s.header.slots) (sym (same_port-true p h.port t))))
 
 -- ---- a take
 
@@ -101,7 +101,7 @@ took_cell : (s : Setup) (w : World) (to from : Port) (pick : ℕ) (x : Item) (ol
 took_cell s w to from pick x old new stands took =
     let e = entry s w to from pick x in
     let now : cell s (with_entry s w to from pick x) to ≡ progress_after s.graph s.header.slots e (cell s w to) =
-    cell-with_entry s w to from pick x to ∙ ap (λ b. if b then progress_after s.graph s.header.slots e (cell s w to) else cell s w to) (same_port_refl to) in
+    cell-with_entry s w to from pick x to ∙ ap (λ b. if b then progress_after s.graph s.header.slots e (cell s w to) else cell s w to) (same_port-refl to) in
     record {
       shows = subst (Shows new) (sym now) (took.shows (cell s w to) e refl refl refl stands.shows);
       dropped = λ t. took.trimmed t ∙ stands.dropped t ∙ dropped_same w (with_entry s w to from pick x) to t refl;
@@ -192,7 +192,7 @@ gave_cell s w from x old new is stands gave =
     after : (t : Port) → trimmed (outbox_of new.outboxes t) ≡ dropped (with_commit w from) from t
     after port.Sink =
         one_fewer old new (cell s w from) (committed from w.commits) stands.shows (gave.shows (cell s w from) stands.shows) gave.kept (stands.dropped port.Sink) (slice_get_within _ _ x is)
-        ∙ sym (committed-push from from (committed from w.commits + 1) w.commits ∙ ap (λ b. if b then committed from w.commits + 1 else committed from w.commits) (same_port_refl from))
+        ∙ sym (committed-push from from (committed from w.commits + 1) w.commits ∙ ap (λ b. if b then committed from w.commits + 1 else committed from w.commits) (same_port-refl from))
     after port.Caller = other port.Caller (λ e. cc) ∙ stands.dropped port.Caller
     after port.Front = other port.Front (λ e. cc) ∙ stands.dropped port.Front
     after port.Join = other port.Join (λ e. cc) ∙ stands.dropped port.Join

@@ -15,7 +15,7 @@ use Rattle.cluster.specs.History.{Setup, Took, after_entry, at_start, IsCell}
 use Rattle.cluster.specs.World.{World, first_world, cell, next_item, entry, with_entry, committed, next_result, with_commit, result_in, result_of, results_of, last_step}
 use Rattle.cluster.specs.Standing.{IsReady, IsReached, IsGiven}
 use Rattle.cluster.proofs.Lists.{all_append, all_of}
-use Rattle.cluster.proofs.SamePorts.{same_port_is}
+use Rattle.sdg_base.proofs.Ports.{same_port-true}
 use Rattle.cluster.proofs.Histories.{after_all-push, IsHistoryFrom-push, after_cases}
 use Rattle.cluster.proofs.Along.{Along, along}
 
@@ -129,7 +129,7 @@ reached-with_commit s w from x is reached =
           (let P : ℕ → Type 0 = λ n. n ≤ length ((cell s w p).gave port.Sink) in
           let Q : Port → Type 0 = λ q. committed q w.commits < length ((cell s w q).gave port.Sink) in
           subst P (sym (committed-push p from (committed from w.commits + 1) w.commits))
-          (one_more_fits (same_port from p) (committed p w.commits) (length ((cell s w p).gave port.Sink)) (λ (own : same_port from p ≡ true). subst Q (same_port_is from p own) l) (reached.in_turn p)));
+          (one_more_fits (same_port from p) (committed p w.commits) (length ((cell s w p).gave port.Sink)) (λ (own : same_port from p ≡ true). subst Q (same_port-true from p own) l) (reached.in_turn p)));
     }
 
 pub results-with_commit : (s : Setup) (w : World) (from : Port) (call : ℕ) (outcome : Outcome) → next_result s w from ≡ Some (item.Done call outcome)
