@@ -2,59 +2,11 @@
 
 use crate::error::Refusal;
 use crate::rows::{call, expr, value};
-use java_tree::{Kind, Place, Reserved, Symbol, Token};
+use crate::test_tokens::{add, tokens_of};
+use java_tree::Token;
 use sqlite_items::Items;
 use std::alloc::{AllocError, Global};
 use std::test::Fail;
-
-const PLACE: Place = Place { line: 1, column: 1 };
-
-fn symbol_of(word: &str) -> Option<Symbol> {
-    match word {
-        "(" => Some(Symbol::OpenParen),
-        ")" => Some(Symbol::CloseParen),
-        "[" => Some(Symbol::OpenBracket),
-        "]" => Some(Symbol::CloseBracket),
-        ";" => Some(Symbol::Semicolon),
-        "," => Some(Symbol::Comma),
-        "." => Some(Symbol::Dot),
-        "@" => Some(Symbol::At),
-        "=" => Some(Symbol::Assign),
-        "?" => Some(Symbol::Question),
-        ":" => Some(Symbol::Colon),
-        "+" => Some(Symbol::Plus),
-        "-" => Some(Symbol::Minus),
-        "*" => Some(Symbol::Star),
-        _ => None,
-    }
-}
-
-fn kind_of(alloc: Global, word: &str) -> Result<Kind, AllocError> {
-    if let Some(symbol) = symbol_of(word) {
-        return Ok(Kind::Symbol(symbol));
-    }
-    match word {
-        "int" => Ok(Kind::Reserved(Reserved::Int)),
-        "new" => Ok(Kind::Reserved(Reserved::New)),
-        "true" => Ok(Kind::Reserved(Reserved::True)),
-        _ => Ok(Kind::Identifier(Items::from_slice(alloc, word.as_bytes())?)),
-    }
-}
-
-/// Adds the tokens of words with spaces between them.
-fn add(alloc: Global, list: &mut Items<Token>, text: &str) -> Result<(), AllocError> {
-    for word in text.split_whitespace() {
-        let kind = kind_of(alloc, word)?;
-        list.push(Token { kind, place: PLACE })?;
-    }
-    Ok(())
-}
-
-fn tokens_of(alloc: Global, text: &str) -> Result<Items<Token>, AllocError> {
-    let mut list = Items::new(alloc);
-    add(alloc, &mut list, text)?;
-    Ok(list)
-}
 
 /// A name in this many parentheses, and a semicolon.
 fn in_parentheses(alloc: Global, times: u32) -> Result<Items<Token>, AllocError> {

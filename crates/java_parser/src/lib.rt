@@ -20,4 +20,6 @@ pub use parsing::parse;
 #[cfg(test)]
 mod expression_tests;
 #[cfg(test)]
+mod test_tokens;
+#[cfg(test)]
 mod tests;
