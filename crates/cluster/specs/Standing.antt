@@ -1,5 +1,5 @@
 -- What a cluster stands for.
-use Rattle.std.specs.Prelude.{◌≡◌, ℕ, ◌+◌, ◌*◌, ◌<◌, ◌≤◌, false, length, map, Some, slice_get}
+use Rattle.std.specs.Prelude.{◌≡◌, ℕ, ◌+◌, ◌*◌, ◌≤◌, false, length, map, Some, slice_get}
 use Rattle.std.specs.List.{AllByRecursion}
 use Rattle.sdg_base.specs.declared.port.Port.{Port}
 use Rattle.sdg_base.specs.declared.port.Port.TheVariants as port
@@ -8,6 +8,7 @@ use Rattle.sdg_base.specs.declared.item.Note.TheVariants as note
 use Rattle.placement.specs.declared.event.Header.{Header}
 use Rattle.placement.specs.declared.event.Event.{Event}
 use Rattle.placement.specs.declared.event.Event.TheVariants as event
+use Rattle.placement.specs.Ports.{IsCellAmong, IsSenderAmong}
 use Rattle.channels.specs.Outboxes.{outbox_of}
 use Rattle.channels.specs.Sent.{trimmed}
 use Rattle.task_code.specs.declared.graph.Graph.{Graph}
@@ -67,7 +68,7 @@ pub record IsReady (s : Setup) : Type 0 where
 abbrev pub IsGiven : Setup → World → Port × ℕ → Type 0
 IsGiven s w c = (1 ≤ c.1) × (c.1 ≤ length ((cell s w c.0).gave port.Sink))
 
--- Events lead to it.
+-- What holds of each world to which events lead.
 pub record IsReached (s : Setup) (w : World) : Type 0 where
   pub history : IsHistory s w.hist
   pub next_step : w.next_step ≡ length w.hist + 1
@@ -75,7 +76,7 @@ pub record IsReached (s : Setup) (w : World) : Type 0 where
   pub given : AllByRecursion (IsGiven s w) w.commits
   pub in_turn : (from : Port) → committed from w.commits ≤ length ((cell s w from).gave port.Sink)
 
--- The cluster stands for a world that events lead to.
+-- The cluster stands for such a world.
 pub record Holds (cluster : Cluster) (s : Setup) (w : World) : Type 0 where
   pub stands : StandsFor cluster s w
   pub ready : IsReady s
@@ -96,14 +97,10 @@ IsSound graph cluster = cluster.spent ≡ false → HasWorld graph cluster
 
 -- the cells of a graph with so many slots a field
 abbrev pub IsCellOf : Graph → Header → Port → Type 0
-IsCellOf graph header port.Front = Unit {0}
-IsCellOf graph header port.Join = Unit {0}
-IsCellOf graph header (port.Slot field at) = (field < length graph.fields) × (at < header.slots)
-IsCellOf graph header p = ⊥
+IsCellOf graph header p = IsCellAmong (length graph.fields) header.slots p
 
 abbrev pub IsSenderOf : Graph → Header → Port → Type 0
-IsSenderOf graph header port.Caller = Unit {0}
-IsSenderOf graph header p = IsCellOf graph header p
+IsSenderOf graph header p = IsSenderAmong (length graph.fields) header.slots p
 
 -- A take names a cell, and the caller or a cell; a commit names a cell.
 abbrev pub NamesPorts : Graph → Header → Event → Type 0

@@ -19,7 +19,8 @@ use Rattle.task_code.specs.declared.graph.Instr.{Instr}
 use Rattle.task_code.specs.declared.graph.Instr.TheVariants as instr
 use Rattle.task_code.specs.Machine as machine
 use Rattle.task_code.specs.Machine.{Setting, Runs, run, pushed, key_value, is_own_field, arguments}
-use Rattle.early_cutter.specs.Points.{number_in, key_of_sum}
+use Rattle.plain_java.specs.Keys.{written_key}
+use Rattle.early_cutter.specs.Points.{number_in}
 use Rattle.early_cutter.specs.Lowering.{argument_code}
 use Rattle.early_cutter.specs.Values.{long_value}
 use Rattle.early_cutter.specs.Agrees.{Matches, key_code}
@@ -41,7 +42,7 @@ argument_runs s scope env variables written key (VariableKey name) matches known
 
 pub key_runs : (s : Setting) (scope : List (List ℕ)) (env : List Val) (variables : Variables) (written : Sum) (key : ℤ) → Matches scope variables env → SumIsKnown scope written
     → s.key ≡ Some key → long_value variables written ≡ key → Pushes s env (key_code scope written) (val.Long key)
-key_runs s scope env variables written key matches known carries value = argument_runs s scope env variables written key (key_of_sum written) matches known carries value
+key_runs s scope env variables written key matches known carries value = argument_runs s scope env variables written key (written_key written) matches known carries value
 
 own : (o : Option ℕ) (field n : ℕ) → o ≡ Some field → field ≡ n → is_own_field o n ≡ true
 own o field n is same = ap (λ x. is_own_field x n) is ∙ eq-eqb field n same

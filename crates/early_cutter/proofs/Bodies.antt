@@ -33,7 +33,8 @@ use Rattle.task_code.specs.declared.graph.Instr.{Instr}
 use Rattle.task_code.specs.declared.graph.Instr.TheVariants as instr
 use Rattle.task_code.specs.Machine as machine
 use Rattle.task_code.specs.Machine.{Setting, Runs, run}
-use Rattle.early_cutter.specs.Points.{Point, number_in, site_at, point_after}
+use Rattle.plain_java.specs.Keys.{written_site}
+use Rattle.early_cutter.specs.Points.{Point, number_in, point_after}
 use Rattle.early_cutter.specs.Sums.{long_code}
 use Rattle.early_cutter.specs.Lowering.{body_code}
 use Rattle.early_cutter.specs.Values.{long_value}
@@ -195,7 +196,7 @@ unmarked_get fields ss end later local s number m at p variables env turns table
     moved.moves
     (later s number m (at + length (key_code p.scope written ++ access)) p' inner env' turns after (OfTable entries) field key
     (stands_local fields s number m (at + length (key_code p.scope written ++ access)) code p.scope ss end variables env st local v refl behind)
-    (holds_after fields s (Some (site_at name written)) local (val.Long v) variables field key after (OfTable entries) (moved.here, is_key)))
+    (holds_after fields s (Some (written_site name written)) local (val.Long v) variables field key after (OfTable entries) (moved.here, is_key)))
 
 unmarked_put : (fields : List (List ℕ)) (ss : List Statement) (end : Ending) → BodySteps fields ss end → (written_value : Sum)
     (s : Setting) (number : ℕ) (m : GraphMethod) (at : ℕ) (p : Point) (variables : Variables) (env : List Val) (turns : ℕ) (tables : Tables)
@@ -247,7 +248,7 @@ marked_by : (fields : List (List ℕ)) (ss : List Statement) (end : Ending) → 
     → (s : Setting) (number : ℕ) (m : GraphMethod) (at : ℕ) (p : Point) (variables : Variables) (env : List Val) (turns : ℕ) (tables : Tables) (state : State) (field : ℕ) (key : ℤ)
     (name : List ℕ) (written : Sum) (b : Bool)
     → first_access ss end ≡ Some (name, written)
-    → same_site p.site (site_at name written) ≡ b
+    → same_site p.site (written_site name written) ≡ b
     → (let code = (if b then [] else long_code p.scope written ++ (instr.Turn ∷ instr.Cut p.task ∷ [])) ++ unmarked_code fields p ss end in
     StandsAt fields s.graph number m at code p.scope ss end variables env
     → SiteHolds fields s p.site variables field key tables state
@@ -298,13 +299,13 @@ unmarked_from fields ss end own_name own_key is access s number m at p variables
 
 -- statements that begin with an access, by whether it has a mark
 from_split : (fields : List (List ℕ)) (ss : List Statement) (end : Ending) (name : List ℕ) (written : Sum) → first_access ss end ≡ Some (name, written) → UnmarkedSteps fields ss end
-    → ((p : Point) → first_mark p (first_access ss end) ≡ (if same_site p.site (site_at name written) then [] else long_code p.scope written ++ (instr.Turn ∷ instr.Cut p.task ∷ [])))
+    → ((p : Point) → first_mark p (first_access ss end) ≡ (if same_site p.site (written_site name written) then [] else long_code p.scope written ++ (instr.Turn ∷ instr.Cut p.task ∷ [])))
     → BodySteps fields ss end
 from_split fields ss end name written is_access unmarked is_mark s number m at p variables env turns tables state field key stands holds =
-    let mark = if same_site p.site (site_at name written) then [] else long_code p.scope written ++ (instr.Turn ∷ instr.Cut p.task ∷ []) in
+    let mark = if same_site p.site (written_site name written) then [] else long_code p.scope written ++ (instr.Turn ∷ instr.Cut p.task ∷ []) in
     let parted : body_code fields p ss end ≡ mark ++ unmarked_code fields p ss end = body_split fields p ss end ∙ ap (λ xs. xs ++ unmarked_code fields p ss end) (is_mark p) in
     subst (λ is. Steps fields s field key (run_from fields (body_tree ss end) p.site variables turns tables) (run s is [] env turns state) turns tables state) (sym parted)
-    (marked_by fields ss end unmarked s number m at p variables env turns tables state field key name written (same_site p.site (site_at name written)) is_access refl
+    (marked_by fields ss end unmarked s number m at p variables env turns tables state field key name written (same_site p.site (written_site name written)) is_access refl
     (subst (λ is. StandsAt fields s.graph number m at is p.scope ss end variables env) parted stands) holds)
 
 set_steps : (fields : List (List ℕ)) (ss : List Statement) (end : Ending) → BodySteps fields ss end → (local : List ℕ) (value : Sum) → BodySteps fields (statement.Set local value ∷ ss) end

@@ -4,7 +4,6 @@ use Rattle.sdg_base.specs.declared.val.Num.TheVariants as num
 use Rattle.sdg_base.specs.declared.operator.BinOp.TheVariants as bin
 use Rattle.sdg_base.specs.declared.store.ClassName.TheVariants as class_name
 use Rattle.state_classes.specs.declared.method.Method.TheVariants as method
-use Rattle.task_code.specs.declared.graph.Instr.{Instr}
 use Rattle.task_code.specs.declared.graph.Instr.TheVariants as instr
 use Rattle.task_code.specs.declared.graph.TaskKind.TheVariants as task_kind
 use Rattle.task_code.specs.declared.graph.VarType.TheVariants as var_type
@@ -13,7 +12,7 @@ use Rattle.task_code.specs.declared.graph.FieldKind.TheVariants as field_kind
 use Rattle.task_code.specs.declared.graph.Graph.{Graph}
 use Rattle.early_forms.specs.declared.straight.Atom.TheVariants.{Literal, Variable}
 use Rattle.early_forms.specs.declared.straight.Sum.{Sum}
-use Rattle.early_forms.specs.declared.straight.Statement.TheVariants.{Get, Set, Put}
+use Rattle.early_forms.specs.declared.straight.Statement.TheVariants.{Get, Put}
 use Rattle.early_forms.specs.declared.straight.Ending.TheVariants as ending
 use Rattle.early_forms.specs.declared.straight.StraightMethod.{StraightMethod}
 use Rattle.early_forms.specs.declared.straight.StraightClass.{StraightClass}

@@ -21,7 +21,8 @@ use Rattle.task_code.specs.Machine.{first_vars}
 use Rattle.early_cutter.specs.Points.{number_in}
 use Rattle.early_cutter.specs.Lowering.{first_point, lowered, lowered_method, lowered_methods, task_behind}
 use Rattle.early_cutter.specs.Cutting.{cut_tasks, method_tasks, tasks_from}
-use Rattle.early_cutter.specs.Agrees.{IsLong, Matches}
+use Rattle.plain_java.specs.Fits.{IsLong}
+use Rattle.early_cutter.specs.Agrees.{Matches}
 use Rattle.early_cutter.proofs.Lists.{get_front, get_behind}
 use Rattle.early_cutter.proofs.Moves.{number_within}
 use Rattle.early_cutter.proofs.Places.{are_body, length-cut_tasks}

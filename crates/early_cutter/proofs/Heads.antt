@@ -15,7 +15,7 @@ use Rattle.access_blocks.specs.Variables.{Variables, Tables}
 use Rattle.access_blocks.specs.Expressions.{long_of}
 use Rattle.access_blocks.specs.Sites.{Access, Site, access_of, site_of, same_site, is_marked}
 use Rattle.access_blocks.specs.Blocks.{run_from, run_block, first_of_list, marked_access, reach, go_on, key_value}
-use Rattle.early_cutter.specs.Points.{site_at}
+use Rattle.plain_java.specs.Keys.{written_site}
 use Rattle.early_cutter.specs.Agrees.{first_access}
 use Rattle.early_cutter.proofs.Statements.{made, access_of-put, access_of-return, access_of-local, site_of-made}
 
@@ -27,7 +27,7 @@ pub record Head (fields : List (List ℕ)) (trees : List BlockItem) (name : List
   pub others : List Value
   pub are_trees : trees ≡ first ∷ rest
   pub accesses : access_of fields (out-BlockItem first) ≡ Some access
-  pub is_site : site_of access ≡ site_at name written
+  pub is_site : site_of access ≡ written_site name written
   pub are_args : access.args ≡ plain (sum_tree written) ∷ others
 
 -- the field of an access is the class's, and its key is known
@@ -104,13 +104,13 @@ key_at : (args others : List Value) (written : Sum) (variables : Variables) (k :
     → key_value args variables ≡ Some (val.Long k)
 key_at args others written variables k are is = ap (λ a. key_value a variables) are ∙ is
 
-is_marked-site : (site : Option Site) (access : Access) (name : List ℕ) (written : Sum) (b : Bool) → site_of access ≡ site_at name written → same_site site (site_at name written) ≡ b
+is_marked-site : (site : Option Site) (access : Access) (name : List ℕ) (written : Sum) (b : Bool) → site_of access ≡ written_site name written → same_site site (written_site name written) ≡ b
     → is_marked site access ≡ not b
 is_marked-site site access name written b is same = ap (λ x. not (same_site site x)) is ∙ ap not same
 
 -- the source up to the mark
 pub runs_to_mark : (fields : List (List ℕ)) (trees : List BlockItem) (site : Option Site) (name : List ℕ) (written : Sum) (variables : Variables) (turns : ℕ) (tables : Tables) (k : ℤ)
-    → Head fields trees name written → same_site site (site_at name written) ≡ false → long_of (plain (sum_tree written)) variables ≡ Some (val.Long k)
+    → Head fields trees name written → same_site site (written_site name written) ≡ false → long_of (plain (sum_tree written)) variables ≡ Some (val.Long k)
     → run_from fields trees site variables turns tables ≡ reach trees variables turns tables (Some (val.Long k))
 runs_to_mark fields trees site name written variables turns tables k head other is =
     let first = head.first in
@@ -127,7 +127,7 @@ runs_to_mark fields trees site name written variables turns tables k head other 
 
 -- the source through an access without mark, as if it went on from a mark
 pub runs_through : (fields : List (List ℕ)) (trees : List BlockItem) (site : Option Site) (name : List ℕ) (written : Sum) (variables : Variables) (turns : ℕ) (tables : Tables) (k : ℤ)
-    → Head fields trees name written → same_site site (site_at name written) ≡ true → long_of (plain (sum_tree written)) variables ≡ Some (val.Long k)
+    → Head fields trees name written → same_site site (written_site name written) ≡ true → long_of (plain (sum_tree written)) variables ≡ Some (val.Long k)
     → run_from fields trees site variables turns tables ≡ run_block fields trees variables turns (val.Long k) tables
 runs_through fields trees site name written variables turns tables k head same is =
     let first = head.first in

@@ -20,7 +20,8 @@ use Rattle.task_code.specs.declared.graph.Graph.{Graph}
 use Rattle.task_code.specs.declared.graph.Task.{Task}
 use Rattle.task_code.specs.declared.graph.Instr.{Instr}
 use Rattle.task_code.specs.declared.graph.Instr.TheVariants as instr
-use Rattle.early_cutter.specs.Points.{Point, number_in, key_of_sum, site_at, point_after}
+use Rattle.plain_java.specs.Keys.{written_key, written_site}
+use Rattle.early_cutter.specs.Points.{Point, number_in, point_after}
 use Rattle.early_cutter.specs.Sums.{type_of, promoted, atom_code, cast_code, plus_code, others_code, long_code}
 use Rattle.early_cutter.specs.Lowering.{mark_code, argument_code, body_code, point_at_end, task_at_end}
 use Rattle.early_cutter.specs.Liveness.{is_live}
@@ -74,7 +75,7 @@ plain_argument scope v (LiteralKey n) = plain_long scope v
 plain_argument scope v (VariableKey name) = plain_long scope v
 
 pub plain_key : (scope : List (List ℕ)) (v : Sum) → ArePlain (key_code scope v)
-plain_key scope v = plain_argument scope v (key_of_sum v)
+plain_key scope v = plain_argument scope v (written_key v)
 
 -- ---- the first access
 
@@ -268,7 +269,7 @@ are_body fields p [] (ending.Sum value) = are_ending fields p.scope p.task (endi
 are_body fields p [] (ending.Get field key) =
     let e = ending.Get field key in
     let last = task_at_end p e in
-    are_marked fields p [] e last (are_mark p last key (unmarked_ending fields p.scope e) (same_site p.site (site_at field key)) (are_ending fields p.scope last e))
+    are_marked fields p [] e last (are_mark p last key (unmarked_ending fields p.scope e) (same_site p.site (written_site field key)) (are_ending fields p.scope last e))
 are_body fields p (s.Set local value ∷ ss) end =
     let st = s.Set local value in
     let next = point_after st p in
@@ -279,14 +280,14 @@ are_body fields p (s.Get local field key ∷ ss) end =
     let next = point_after st p in
     let last = task_at_end (point_at_end next ss) end in
     are_marked fields p (st ∷ ss) end last
-    (are_mark p last key (unmarked_statement fields p.scope st ++ body_code fields next ss end) (same_site p.site (site_at field key))
+    (are_mark p last key (unmarked_statement fields p.scope st ++ body_code fields next ss end) (same_site p.site (written_site field key))
     (are_statement fields p.scope next.task last st (body_code fields next ss end) (are_body fields next ss end)))
 are_body fields p (s.Put field key value ∷ ss) end =
     let st = s.Put field key value in
     let next = point_after st p in
     let last = task_at_end (point_at_end next ss) end in
     are_marked fields p (st ∷ ss) end last
-    (are_mark p last key (unmarked_statement fields p.scope st ++ body_code fields next ss end) (same_site p.site (site_at field key))
+    (are_mark p last key (unmarked_statement fields p.scope st ++ body_code fields next ss end) (same_site p.site (written_site field key))
     (are_statement fields p.scope next.task last st (body_code fields next ss end) (are_body fields next ss end)))
 
 -- as many tasks as the cuts have numbers

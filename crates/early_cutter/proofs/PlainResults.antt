@@ -1,15 +1,14 @@
 -- The results of a run whose calls don't interleave, as outcomes by call.
-use Rattle.std.proofs.Common.{◌≡◌, ◌≢◌, ℕ, zero, suc, ◌+◌, ◌<◌, ◌≤◌, List, [], ◌∷◌, map, length, Some, ◌⊎◌, inl, inr, refl, ap, sym, ◌∙◌, subst, arith}
+use Rattle.std.proofs.Common.{◌≡◌, ℕ, zero, suc, ◌+◌, ◌<◌, ◌≤◌, List, [], ◌∷◌, map, length, Some, inl, inr, refl, ap, sym, ◌∙◌, subst, arith}
 use Rattle.std.specs.List.{AllByRecursion}
 use Rattle.sdg_base.specs.declared.val.Outcome.{Outcome}
-use Rattle.sdg_base.specs.declared.call.Call.{Call}
 use Rattle.java_tree.specs.declared.tree.Class.{Class}
 use Rattle.access_blocks.specs.Source.{Source, outcome, numbered, Explains}
 use Rattle.access_blocks.specs.Serial.{IsSerial}
 use Rattle.plain_java.specs.Serial.{SerialIsPlain}
 use Rattle.cluster.specs.History.{Setup, steps_of}
 use Rattle.cluster.specs.World.{World, world_of, results_of, numbers_from}
-use Rattle.agreement.specs.Results.{Results, HasResult, AreOneEach, RunAgrees}
+use Rattle.agreement.specs.Results.{Results, HasResult, RunAgrees}
 use Rattle.early_cutter.specs.Runs.{RunsInTurn, ArePlainResults, ArePlainInOrder}
 
 -- what holds of all results holds of one

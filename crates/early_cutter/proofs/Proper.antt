@@ -1,5 +1,5 @@
 -- The literals of a proper class are ints.
-use Rattle.std.proofs.Common.{◌≡◌, ℕ, ◌<◌, ◌≤◌, ◌^◌, List, [], ◌∷◌, ◌++◌, length, All, arith}
+use Rattle.std.proofs.Common.{◌≡◌, ℕ, List, [], ◌∷◌, ◌++◌, length, All, arith}
 use Rattle.std.proofs.lemmas.List.Elements.{All-cons, All-head, All-tail}
 use Rattle.early_forms.specs.declared.straight.Atom.{Atom}
 use Rattle.early_forms.specs.declared.straight.Atom.TheVariants.{Literal, Variable}

@@ -26,7 +26,8 @@ use Rattle.task_code.specs.declared.graph.Task.{Task}
 use Rattle.task_code.specs.Machine.{Setting, Runs, run, runs, start_method, run_task, run_in_method, first_vars, carried_vars}
 use Rattle.early_cutter.specs.Lowering.{first_point, lowered, lowered_method, task_behind, table_field}
 use Rattle.early_cutter.specs.Cutting.{cut_tasks, graph_of, keyed_task}
-use Rattle.early_cutter.specs.Agrees.{IsLong, CallFits, Agrees, WorkAgrees, StandsAt, unmarked_code}
+use Rattle.plain_java.specs.Fits.{IsLong, CallFits}
+use Rattle.early_cutter.specs.Agrees.{Agrees, WorkAgrees, StandsAt, unmarked_code}
 use Rattle.early_cutter.proofs.Live.{run_carried}
 use Rattle.early_cutter.proofs.Scopes.{new_from_distinct, distinct_behind}
 use Rattle.early_cutter.proofs.Places.{leads_from, are_body, carries_live}

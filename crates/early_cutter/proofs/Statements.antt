@@ -23,8 +23,8 @@ use Rattle.access_blocks.specs.Variables.{Variables, Tables}
 use Rattle.access_blocks.specs.Expressions.{as_long}
 use Rattle.access_blocks.specs.Sites.{Access, Site, access_in, expr_access, access_of, statement_access, held_access, site_of}
 use Rattle.access_blocks.specs.Blocks.{Next, finish, finish_statement, declared, ended}
-use Rattle.early_cutter.specs.Points.{site_at}
-use Rattle.early_cutter.proofs.SumTrees.{key_of-sum}
+use Rattle.plain_java.specs.Keys.{written_site}
+use Rattle.plain_java.proofs.SitesOfTrees.{site-written}
 
 -- an access of the field, with these arguments
 abbrev pub made : List ℕ → List ℕ → List Expr → Access
@@ -82,8 +82,8 @@ access_of-local fields name field key contains =
     ap (access_of fields) (item.outs-Local (local_of name (got field key))) ∙ held_access-call fields field (codes "get") (sum_tree key ∷ []) contains
 
 -- the site of an access
-pub site_of-made : (field method : List ℕ) (key : Sum) (others : List Expr) → site_of (made field method (sum_tree key ∷ others)) ≡ site_at field key
-site_of-made field method key others = ap (λ k. record { field = field; key = k }) (key_of-sum key)
+pub site_of-made : (field method : List ℕ) (key : Sum) (others : List Expr) → site_of (made field method (sum_tree key ∷ others)) ≡ written_site field key
+site_of-made field method key others = site-written field key
 
 -- Atoms and sums have none.
 no_access-atom : (fields : List (List ℕ)) (atom : Atom) → expr_access fields (out-Expr (atom_tree atom)) ≡ None

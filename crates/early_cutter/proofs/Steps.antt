@@ -22,7 +22,8 @@ use Rattle.access_blocks.specs.Source.{state_of}
 use Rattle.agreement.specs.Simulation.{entry_in, field_names, left, Gives}
 use Rattle.task_code.specs.declared.graph.GraphMethod.{GraphMethod}
 use Rattle.task_code.specs.Machine.{Setting, Runs, run}
-use Rattle.early_cutter.specs.Points.{Point, number_in, key_of_sum, site_at}
+use Rattle.plain_java.specs.Keys.{written_key, written_site}
+use Rattle.early_cutter.specs.Points.{Point, number_in}
 use Rattle.early_cutter.specs.Lowering.{body_code}
 use Rattle.early_cutter.specs.Values.{AreLongs, long_value, whole_of}
 use Rattle.early_cutter.specs.Agrees.{Agrees, StandsAt, first_access, unmarked_code}
@@ -82,7 +83,7 @@ SiteHolds fields s (Some site) variables field key tables state = IsHere fields 
 
 -- the key of a sum, whose value is this
 key_is_from : (scope : List (List ℕ)) (variables : Variables) (first : Atom) (others : List Atom) (key : ℤ) → AreLongs scope variables
-    → (let v : Sum = record { first = first; others = others } in SumIsKnown scope v → long_value variables v ≡ key → KeyIs (key_of_sum v) variables key)
+    → (let v : Sum = record { first = first; others = others } in SumIsKnown scope v → long_value variables v ≡ key → KeyIs (written_key v) variables key)
 key_is_from scope variables (Literal n) [] key longs known is = sym is
 key_is_from scope variables (Variable name) [] key longs known is =
     let found = longs name (known 0 (Variable name) (omega arith)) in
@@ -91,12 +92,12 @@ key_is_from scope variables (Variable name) [] key longs known is =
 key_is_from scope variables (Literal n) (atom ∷ atoms) key longs known is = tt
 key_is_from scope variables (Variable name) (atom ∷ atoms) key longs known is = tt
 
-pub key_is : (scope : List (List ℕ)) (variables : Variables) (v : Sum) (key : ℤ) → AreLongs scope variables → SumIsKnown scope v → long_value variables v ≡ key → KeyIs (key_of_sum v) variables key
+pub key_is : (scope : List (List ℕ)) (variables : Variables) (v : Sum) (key : ℤ) → AreLongs scope variables → SumIsKnown scope v → long_value variables v ≡ key → KeyIs (written_key v) variables key
 key_is scope variables v key longs known is = key_is_from scope variables v.first v.others key longs known is
 
 -- A sum whose key is the current one has its value.
 same_value : (variables : Variables) (current : Key) (first : Atom) (others : List Atom) (key : ℤ)
-    → (let v : Sum = record { first = first; others = others } in same_key current (key_of_sum v) ≡ true → KeyIs current variables key → long_value variables v ≡ key)
+    → (let v : Sum = record { first = first; others = others } in same_key current (written_key v) ≡ true → KeyIs current variables key → long_value variables v ≡ key)
 same_value variables (LiteralKey m) (Literal n) [] key same is = sym (is ∙ ap pos (eqb-true m n same))
 same_value variables (LiteralKey m) (Variable name) [] key same is = absurd (cc)
 same_value variables (LiteralKey m) (Literal n) (atom ∷ atoms) key same is = absurd (cc)
@@ -117,10 +118,10 @@ pub record AtSite (fields : List (List ℕ)) (s : Setting) (name : List ℕ) (wr
   pub value : long_value variables written ≡ key
 
 pub at_site : (fields : List (List ℕ)) (s : Setting) (site : Option Site) (name : List ℕ) (written : Sum) (variables : Variables) (field : ℕ) (key : ℤ) (tables : Tables) (state : State)
-    → SiteHolds fields s site variables field key tables state → same_site site (site_at name written) ≡ true → AtSite fields s name written variables field key tables state
+    → SiteHolds fields s site variables field key tables state → same_site site (written_site name written) ≡ true → AtSite fields s name written variables field key tables state
 at_site fields s None name written variables field key tables state holds same = absurd (cc)
 at_site fields s (Some site) name written variables field key tables state holds same =
-    let both = if_true (bytes_eq site.field name) (same_key site.key (key_of_sum written)) same in
+    let both = if_true (bytes_eq site.field name) (same_key site.key (written_key written)) same in
     let e = (bytes_eq-Decides site.field name).0 both.0 in
     record {
       here = subst (λ n. IsHere fields s n field key tables state) e holds.0;

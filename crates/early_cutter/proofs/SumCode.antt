@@ -18,7 +18,8 @@ use Rattle.task_code.specs.declared.graph.Instr.TheVariants as instr
 use Rattle.task_code.specs.Machine.{Setting, run, pushed}
 use Rattle.early_cutter.specs.Points.{number_in}
 use Rattle.early_cutter.specs.Sums.{type_of, promoted, atom_code, cast_code, plus_code, others_code, long_code}
-use Rattle.early_cutter.specs.Values.{atom_value, sum_from, whole_of, long_value, HasType}
+use Rattle.plain_java.specs.Results.{atom_value}
+use Rattle.early_cutter.specs.Values.{sum_from, whole_of, long_value, HasType}
 use Rattle.early_cutter.specs.Agrees.{Matches}
 
 -- code that leads to the rest with one value more on the stack

@@ -1,4 +1,4 @@
--- The value of a sum as it is written is the sum from left to right, and its key is the sum's.
+-- The value of a sum as it is written is the sum from left to right.
 use Rattle.std.proofs.Common.{◌≡◌, refl, ℕ, pos, Bool, true, false, List, [], ◌∷◌, map, Some, None, All, ◌^◌, nat_lt, if◌then◌else◌, unwrap_or, sym, ap, ◌∙◌}
 use Rattle.std.proofs.lemmas.Bool.{lt-ltb}
 use Rattle.std.proofs.lemmas.List.Elements.{All-head, All-tail}
@@ -17,13 +17,12 @@ use Rattle.early_forms.specs.declared.straight.Atom.{Atom}
 use Rattle.early_forms.specs.declared.straight.Atom.TheVariants.{Literal, Variable}
 use Rattle.early_forms.specs.declared.straight.Sum.{Sum}
 use Rattle.early_forms.specs.Names.{AtomIsKnown, SumIsKnown}
-use Rattle.early_forms.specs.Trees.{atom_tree, plus, chain, sum_tree, plain}
+use Rattle.early_forms.specs.Trees.{atom_tree, plus, sum_tree, plain}
 use Rattle.access_blocks.specs.Variables.{Variables, named}
 use Rattle.access_blocks.specs.Expressions.{Meaning, value_of, literal, sum, applied, operated, as_long, long_from, long_of, call_step, expr_step, operation_step, value_step}
-use Rattle.access_blocks.specs.Sites.{Key, key_of, key_step}
-use Rattle.early_cutter.specs.Points.{sum_key, key_of_sum}
 use Rattle.early_cutter.specs.Sums.{type_of, promoted}
-use Rattle.early_cutter.specs.Values.{atom_value, sum_from, sum_value, whole_of, long_value, HasType, AreLongs}
+use Rattle.plain_java.specs.Results.{atom_value}
+use Rattle.early_cutter.specs.Values.{sum_from, sum_value, whole_of, long_value, HasType, AreLongs}
 use Rattle.early_cutter.proofs.SumCode.{sum_typed, type_from}
 
 -- ---- values
@@ -116,25 +115,3 @@ pub long_of-sum : (scope : List (List ℕ)) (variables : Variables) (v : Sum) �
 long_of-sum scope variables v longs known =
     let is = chain_gives scope variables v.first v.others longs known in
     ap long_from is.value ∙ number_as_long (type_from (type_of v.first) v.others) (sum_value variables v) is.typed
-
--- ---- keys
-
-key_of-Number : (n : ℕ) → key_of (e.Number n true false) ≡ sum_key (Literal n) []
-key_of-Number n =
-    ap key_of (sym (e.rolls-Number n true false)) ∙ fold-roll-Expr (Unit {0}) Key (Unit {0}) (Unit {0}) (λ _. tt) key_step (λ _. tt) (λ _. tt) (layer.Number n true false)
-
-key_of-Name : (name : List ℕ) → key_of (e.Name name) ≡ sum_key (Variable name) []
-key_of-Name name = ap key_of (sym (e.rolls-Name name)) ∙ fold-roll-Expr (Unit {0}) Key (Unit {0}) (Unit {0}) (λ _. tt) key_step (λ _. tt) (λ _. tt) (layer.Name name)
-
-key_of-chain : (first : Atom) (others : List Atom) → key_of (chain (atom_tree first) others) ≡ sum_key first others
-key_of-chain (Literal n) [] = key_of-Number n
-key_of-chain (Variable name) [] = key_of-Name name
-key_of-chain (Literal n) (atom ∷ atoms) =
-    ap key_of (sym (e.rolls-Binary (e.Number n true false) (map plus (atom ∷ atoms))))
-    ∙ fold-roll-Expr (Unit {0}) Key (Unit {0}) (Unit {0}) (λ _. tt) key_step (λ _. tt) (λ _. tt) (layer.Binary (e.Number n true false) (map plus (atom ∷ atoms)))
-key_of-chain (Variable name) (atom ∷ atoms) =
-    ap key_of (sym (e.rolls-Binary (e.Name name) (map plus (atom ∷ atoms))))
-    ∙ fold-roll-Expr (Unit {0}) Key (Unit {0}) (Unit {0}) (λ _. tt) key_step (λ _. tt) (λ _. tt) (layer.Binary (e.Name name) (map plus (atom ∷ atoms)))
-
-pub key_of-sum : (v : Sum) → key_of (sum_tree v) ≡ key_of_sum v
-key_of-sum v = key_of-chain v.first v.others

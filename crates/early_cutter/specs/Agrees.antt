@@ -1,8 +1,7 @@
 -- When an item of a graph of the straight form agrees with what a call of the source has come to.
-use Rattle.std.specs.Prelude.{◌≡◌, ℕ, ℤ, ◌+◌, ◌≤◌, List, [], ◌∷◌, ◌++◌, length, drop, Option, Some, None, slice_get, Contains, All}
+use Rattle.std.specs.Prelude.{◌≡◌, ℕ, ℤ, ◌+◌, ◌≤◌, List, [], ◌∷◌, ◌++◌, length, drop, Option, Some, None, slice_get, Contains}
 use Rattle.sdg_base.specs.declared.val.Val.{Val}
 use Rattle.sdg_base.specs.declared.val.Val.TheVariants as val
-use Rattle.sdg_base.specs.declared.call.Call.{Call}
 use Rattle.sdg_base.specs.declared.port.Port.{Port}
 use Rattle.sdg_base.specs.declared.port.Port.TheVariants as port
 use Rattle.sdg_base.specs.declared.item.Item.{Item}
@@ -13,8 +12,6 @@ use Rattle.early_forms.specs.declared.straight.Statement.{Statement}
 use Rattle.early_forms.specs.declared.straight.Statement.TheVariants as statement
 use Rattle.early_forms.specs.declared.straight.Ending.{Ending}
 use Rattle.early_forms.specs.declared.straight.Ending.TheVariants as ending
-use Rattle.early_forms.specs.declared.straight.StraightMethod.{StraightMethod}
-use Rattle.early_forms.specs.declared.straight.StraightClass.{StraightClass}
 use Rattle.early_forms.specs.Names.{declared_names, locals, BodyIsKnown}
 use Rattle.early_forms.specs.Trees.{body_tree}
 use Rattle.access_blocks.specs.Variables.{Variables, named}
@@ -26,25 +23,13 @@ use Rattle.task_code.specs.declared.graph.Instr.TheVariants as instr
 use Rattle.task_code.specs.declared.graph.GraphMethod.{GraphMethod}
 use Rattle.task_code.specs.declared.graph.Graph.{Graph}
 use Rattle.task_code.specs.Machine.{carried}
-use Rattle.early_cutter.specs.Points.{Point, number_in, key_of_sum, point_after}
+use Rattle.plain_java.specs.Keys.{written_key}
+use Rattle.early_cutter.specs.Points.{Point, number_in, point_after}
 use Rattle.early_cutter.specs.Sums.{long_code}
 use Rattle.early_cutter.specs.Lowering.{argument_code, body_code}
 use Rattle.early_cutter.specs.Liveness.{live_variables}
 use Rattle.early_cutter.specs.Cutting.{keyed_task}
 use Rattle.early_cutter.specs.Values.{AreLongs, long_value}
-
--- ---- which calls a class can be given
-
-abbrev pub IsLong : Val → Type 0
-IsLong (val.Long n) = Unit {0}
-IsLong _ = ⊥
-
--- The method is there, and each of its parameters has an argument, which is a long.
-pub record CallFits (class : StraightClass) (call : Call) : Type 0 where
-  pub method : StraightMethod
-  pub is_method : slice_get class.methods call.method ≡ Some method
-  pub as_many : length call.args ≡ length method.parameters
-  pub longs : All IsLong call.args
 
 -- ---- variables
 
@@ -84,7 +69,7 @@ first_access [] end = accessed_at_end end
 first_access (st ∷ ss) end = accessed_by st
 
 abbrev pub key_code : List (List ℕ) → Sum → List Instr
-key_code scope key = argument_code (key_of_sum key) scope key
+key_code scope key = argument_code (written_key key) scope key
 
 -- a statement's code behind its mark, if it has one
 abbrev pub unmarked_statement : List (List ℕ) → List (List ℕ) → Statement → List Instr

@@ -1,5 +1,5 @@
 -- Literals that are ints.
-use Rattle.std.specs.Prelude.{ℕ, ◌<◌, ◌^◌, ◌∷◌, All}
+use Rattle.std.specs.Prelude.{◌<◌, ◌^◌, All}
 use Rattle.early_forms.specs.declared.straight.Atom.{Atom}
 use Rattle.early_forms.specs.declared.straight.Atom.TheVariants.{Literal, Variable}
 use Rattle.early_forms.specs.declared.straight.Sum.{Sum}

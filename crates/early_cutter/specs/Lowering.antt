@@ -1,9 +1,8 @@
 -- The flat code of a method of the straight form, with a cut at each mark.
-use Rattle.std.specs.Prelude.{ℕ, zero, suc, ◌+◌, if◌then◌else◌, List, [], ◌∷◌, ◌++◌, length, map, replicate, Option, Some, None}
+use Rattle.std.specs.Prelude.{ℕ, ◌+◌, if◌then◌else◌, List, [], ◌∷◌, ◌++◌, length, replicate, Option, Some, None}
 use Rattle.sdg_base.specs.declared.store.ClassName.TheVariants as class_name
-use Rattle.state_classes.specs.declared.method.Method.{Method}
 use Rattle.state_classes.specs.declared.method.Method.TheVariants as method
-use Rattle.access_blocks.specs.Sites.{Key, Compound, Site, same_site}
+use Rattle.access_blocks.specs.Sites.{Key, Compound, same_site}
 use Rattle.task_code.specs.declared.graph.Instr.{Instr}
 use Rattle.task_code.specs.declared.graph.Instr.TheVariants as instr
 use Rattle.task_code.specs.declared.graph.VarType.{VarType}
@@ -19,7 +18,8 @@ use Rattle.early_forms.specs.declared.straight.Ending.{Ending}
 use Rattle.early_forms.specs.declared.straight.Ending.TheVariants as ending
 use Rattle.early_forms.specs.declared.straight.StraightMethod.{StraightMethod}
 use Rattle.early_forms.specs.Names.{variables}
-use Rattle.early_cutter.specs.Points.{Point, number_in, key_of_sum, site_at, point_at, point_after}
+use Rattle.plain_java.specs.Keys.{written_key, written_site}
+use Rattle.early_cutter.specs.Points.{Point, number_in, point_at, point_after}
 use Rattle.early_cutter.specs.Sums.{long_code}
 
 -- ---- an access
@@ -27,7 +27,7 @@ use Rattle.early_cutter.specs.Sums.{long_code}
 -- A mark stands where the site is not the current one: the key is evaluated, a turn is spent, and the task ends.
 abbrev pub mark_code : Point → List ℕ → Sum → List Instr
 mark_code p field key =
-    if same_site p.site (site_at field key) then [] else long_code p.scope key ++ instr.Turn ∷ instr.Cut p.task ∷ []
+    if same_site p.site (written_site field key) then [] else long_code p.scope key ++ instr.Turn ∷ instr.Cut p.task ∷ []
 
 -- A compound key is not evaluated again: it is the one that was carried to the task.
 abbrev pub argument_code : Key → List (List ℕ) → Sum → List Instr
@@ -35,7 +35,7 @@ argument_code Compound scope key = instr.Key ∷ []
 argument_code _ scope key = long_code scope key
 
 abbrev pub key_code : Point → List ℕ → Sum → List Instr
-key_code p field key = mark_code p field key ++ argument_code (key_of_sum key) p.scope key
+key_code p field key = mark_code p field key ++ argument_code (written_key key) p.scope key
 
 abbrev pub get_code : List (List ℕ) → Point → List ℕ → Sum → List Instr
 get_code fields p field key = key_code p field key ++ instr.Access (number_in fields field) method.Get ∷ []

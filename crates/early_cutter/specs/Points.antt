@@ -1,33 +1,16 @@
 -- Where a body stands between two statements: the variables in scope by number, the current site, and the next task.
-use Rattle.std.specs.Prelude.{ℕ, suc, ◌+◌, if◌then◌else◌, List, [], ◌∷◌, ◌++◌, Option, Some, None}
+use Rattle.std.specs.Prelude.{ℕ, suc, ◌+◌, if◌then◌else◌, List, [], ◌∷◌, ◌++◌, Option, Some}
 use Rattle.std.specs.Str.{bytes_eq}
-use Rattle.access_blocks.specs.Sites.{Key, LiteralKey, VariableKey, Compound, Site, same_site, after_declaration}
-use Rattle.early_forms.specs.declared.straight.Atom.{Atom}
-use Rattle.early_forms.specs.declared.straight.Atom.TheVariants.{Literal, Variable}
+use Rattle.access_blocks.specs.Sites.{Site, same_site, after_declaration}
 use Rattle.early_forms.specs.declared.straight.Sum.{Sum}
 use Rattle.early_forms.specs.declared.straight.Statement.{Statement}
 use Rattle.early_forms.specs.declared.straight.Statement.TheVariants.{Get, Set, Put}
+use Rattle.plain_java.specs.Keys.{written_site}
 
 -- the place of a name in a list, from 0; of a name that is not there the list's length
 abbrev pub number_in : List (List ℕ) → List ℕ → ℕ
 number_in [] name = 0
 number_in (x ∷ xs) name = if bytes_eq x name then 0 else suc (number_in xs name)
-
--- ---- sites
-
--- a literal or a variable alone, or any other sum
-abbrev pub sum_key : Atom → List Atom → Key
-sum_key (Literal n) [] = LiteralKey n
-sum_key (Variable name) [] = VariableKey name
-sum_key first (a ∷ others) = Compound
-
-abbrev pub key_of_sum : Sum → Key
-key_of_sum s = sum_key s.first s.others
-
-abbrev pub site_at : List ℕ → Sum → Site
-site_at field key = record { field = field; key = key_of_sum key }
-
--- ---- points
 
 -- The names in scope have their numbers by their places: the parameters, and then the locals in text order.
 pub record Point : Type 0 where
@@ -41,7 +24,7 @@ task_after_access current site task = if same_site current site then task else t
 
 -- behind an access
 abbrev pub point_at : List ℕ → Sum → Point → Point
-point_at field key p = record { scope = p.scope; site = Some (site_at field key); task = task_after_access p.site (site_at field key) p.task }
+point_at field key p = record { scope = p.scope; site = Some (written_site field key); task = task_after_access p.site (written_site field key) p.task }
 
 -- behind the declaration of a local
 abbrev pub point_with : List ℕ → Point → Point

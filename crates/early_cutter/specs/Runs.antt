@@ -18,7 +18,7 @@ use Rattle.cluster.specs.History.{Setup, starts, steps_of}
 use Rattle.cluster.specs.World.{World, world_of, results_of, numbers_from}
 use Rattle.agreement.specs.Results.{Results, HasResult, RunAgrees, IsForCell, AreEnoughSteps}
 use Rattle.early_cutter.specs.Cutting.{graph_of}
-use Rattle.early_cutter.specs.Agrees.{CallFits}
+use Rattle.plain_java.specs.Fits.{CallFits}
 
 -- the graph of the class, its calls, and what the run stands on
 abbrev pub setup_of : StraightClass → List Call → Header → Setup

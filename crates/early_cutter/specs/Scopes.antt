@@ -1,16 +1,14 @@
 -- What the passes know of a place in a body, as they go.
-use Rattle.std.specs.Prelude.{◌≡◌, ℕ, zero, suc, if◌then◌else◌, List, [], ◌∷◌, Option, Some, None, length}
+use Rattle.std.specs.Prelude.{◌≡◌, ℕ, suc, if◌then◌else◌, List, [], ◌∷◌, Option, Some, None, length}
 use Rattle.std.specs.Str.{bytes_eq}
 use Rattle.std.specs.Borrow.{Bor}
 use Rattle.std.specs.BTreeMap.{BTreeMap, get_by}
 use Rattle.std.specs.Cmp.Lexicographic.{slice_cmp}
 use Rattle.std.specs.Option.{option_map}
 use Rattle.std.specs.Ordering.{nat_cmp}
-use Rattle.access_blocks.specs.Sites.{Site}
 use Rattle.early_cutter.specs.declared.point.Scope.{Scope}
-use Rattle.early_cutter.specs.declared.point.Seen.{Seen}
 use Rattle.early_cutter.specs.declared.point.Here.{Here}
-use Rattle.early_cutter.specs.Points.{Point, site_at}
+use Rattle.early_cutter.specs.Points.{Point}
 
 -- a map from names
 abbrev pub Index : Type 0
@@ -29,11 +27,7 @@ pub record Numbers (scope : Scope) (names : List (List ℕ)) : Type 0 where
   pub each : (name : List ℕ) → index_at scope.numbers name ≡ found_in names name
   pub as_many : scope.count ≡ length names
 
-abbrev pub seen_site : Option Seen → Option Site
-seen_site None = None
-seen_site (Some s) = Some (site_at s.field.now s.key.now)
-
 pub record IsAt (here : Here) (p : Point) : Type 0 where
   pub scope : Numbers here.scope p.scope
-  pub site : seen_site here.site ≡ p.site
+  pub site : here.site ≡ p.site
   pub task : here.task ≡ p.task

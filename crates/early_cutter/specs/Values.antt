@@ -1,19 +1,14 @@
 -- The values of sums, from left to right.
-use Rattle.std.specs.Prelude.{◌≡◌, ℕ, ℤ, pos, List, [], ◌∷◌, Some, unwrap_or, Contains}
+use Rattle.std.specs.Prelude.{◌≡◌, ℕ, ℤ, pos, List, [], ◌∷◌, Some, Contains}
 use Rattle.sdg_base.specs.declared.val.Val.{Val}
 use Rattle.sdg_base.specs.declared.val.Val.TheVariants as val
 use Rattle.sdg_base.specs.declared.val.Num.{Num}
 use Rattle.sdg_base.specs.declared.val.Num.TheVariants as num
 use Rattle.sdg_base.specs.Operators.{sum_of}
 use Rattle.early_forms.specs.declared.straight.Atom.{Atom}
-use Rattle.early_forms.specs.declared.straight.Atom.TheVariants.{Literal, Variable}
 use Rattle.early_forms.specs.declared.straight.Sum.{Sum}
+use Rattle.plain_java.specs.Results.{atom_value}
 use Rattle.access_blocks.specs.Variables.{Variables, named}
-
--- A literal is an int.
-abbrev pub atom_value : Variables → Atom → Val
-atom_value variables (Literal n) = val.Int (pos n)
-atom_value variables (Variable name) = unwrap_or (named name variables) val.Unit
 
 abbrev pub sum_from : Variables → Val → List Atom → Val
 sum_from variables so_far [] = so_far

@@ -6,7 +6,8 @@ ghost use Rattle.early_forms.specs.Names.{IsProper};
 ghost use Rattle.early_forms.specs.Trees.{class_tree};
 ghost use Rattle.agreement.specs.Simulation.{Simulation};
 ghost use Rattle.early_cutter.specs.Cutting.{graph_of};
-ghost use Rattle.early_cutter.specs.Agrees.{CallFits, Agrees};
+ghost use Rattle.plain_java.specs.Fits.{CallFits};
+ghost use Rattle.early_cutter.specs.Agrees.{Agrees};
 ghost use Rattle.early_cutter.specs.Runs.{EveryRunAgrees, PlainRunsInTurn, EveryCallIsSafe, SerialRunsArePlain, OrderedRunsArePlain};
 
 use plain_java::serial_is_plain;

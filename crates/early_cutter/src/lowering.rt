@@ -4,15 +4,15 @@ ghost use Rattle.std.specs.Prelude.{◌≡◌, ◌∷◌, ◌++◌, ◌<◌, ◌
 ghost use Rattle.task_code.specs.declared.graph.VarType.TheVariants as var_type;
 ghost use Rattle.early_forms.specs.Names.{variables};
 ghost use Rattle.early_cutter.specs.Bounds.{SumFits, StatementFits, EndingFits, MethodFits};
-ghost use Rattle.early_cutter.specs.Points.{Point, number_in, key_of_sum, point_at, point_with, point_after};
+ghost use Rattle.plain_java.specs.Keys.{written_key};
+ghost use Rattle.early_cutter.specs.Points.{Point, number_in, point_at, point_with, point_after};
 ghost use Rattle.early_cutter.specs.Scopes.{IsAt};
 ghost use Rattle.early_cutter.specs.Lowering.{mark_code, argument_code, key_code, get_code, put_code, statement_code, ending_code, body_code, first_point, lowered, result_type, lowered_method, lowered_methods, task_at_end, task_behind, point_at_end};
 
-use crate::point::{
-    Here, Seen, declare, is_compound, is_same_site, next_number, scope_of, site_behind, small,
-};
+use crate::point::{Here, declare, is_compound, next_number, scope_of, small};
 use crate::sums::add_long;
 use early_forms::{Ending, Statement, StraightMethod, Sum};
+use plain_java::{Site, is_ended, is_same};
 use sdg_base::Name;
 use sqlite_items::Items;
 use state_classes::Method;
@@ -43,20 +43,21 @@ fn add_mark<'a>(
     ensures point { OnOk result ((p : Point) → IsAt here.old p → IsAt here.new (point_at field.now key.now p)) }
     ensures scope { OnOk result (here.new.scope ≡ here.old.scope) }
 {
-    if !is_same_site(&here.site, field, key) {
+    let site = Site { field, key };
+    if !is_same(&here.site, &site) {
         let task = here.task;
         here.task = next_number(task)?;
         add_long(code, &here.scope, key)?;
         code.push(Instr::Turn)?;
         code.push(Instr::Cut(task))?;
     }
-    here.site = Some(Seen { field, key });
+    here.site = Some(site);
     Ok(())
 }
 
 fn add_argument(code: &mut Items<Instr>, here: &Here, key: &Sum) -> Result<(), AllocError>
     requires { SumFits key.now }
-    ensures { OnOk result ((p : Point) → IsAt here.now p → code.new ≡ code.old ++ argument_code (key_of_sum key.now) p.scope key.now) }
+    ensures { OnOk result ((p : Point) → IsAt here.now p → code.new ≡ code.old ++ argument_code (written_key key.now) p.scope key.now) }
 {
     if is_compound(key) {
         return code.push(Instr::Key);
@@ -115,7 +116,9 @@ fn add_store<'a>(
     ensures point { OnOk result ((p : Point) → IsAt here.old p → IsAt here.new (point_with local.now p)) }
 {
     code.push(Instr::Store(here.scope.count))?;
-    here.site = site_behind(local, here.site);
+    if is_ended(&here.site, local) {
+        here.site = None;
+    }
     declare(&mut here.scope, local)
 }
 

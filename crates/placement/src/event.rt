@@ -1,7 +1,11 @@
 //! The events of a schedule, and what they answered.
 
+ghost use Rattle.std.specs.Prelude.{◌≡◌};
+ghost use Rattle.placement.specs.Plain.{plain_schedule};
+
 use sdg_base::Port;
 use sqlite_items::Items;
+use std::alloc::Global;
 
 /// How many nodes, slots of each partitioned field, stores, and instances of each partial field at
 /// the start a run has: 1 to 32, 1 to 64, 1 to 8 and 1 to 64.
@@ -29,6 +33,24 @@ pub type Events = Items<Event>;
 pub struct Schedule {
     pub header: Header,
     pub events: Events,
+}
+
+impl Schedule {
+    /// What a run without a schedule stands on: one node, slot, store and instance, and no events. It
+    /// takes no memory.
+    pub fn plain(alloc: Global) -> Schedule
+        ensures { result ≡ plain_schedule }
+    {
+        Schedule {
+            header: Header {
+                nodes: 1,
+                slots: 1,
+                stores: 1,
+                width: 1,
+            },
+            events: Items::new(alloc),
+        }
+    }
 }
 
 /// What an event answered. A damaged image has the digest that was stated and the one that was found.

@@ -6,3 +6,6 @@ mod slot;
 
 pub use event::{Event, Events, Header, Schedule, Word};
 pub use slot::slot_of;
+
+#[cfg(test)]
+mod tests;

@@ -7,8 +7,7 @@ mod LegalSteps
 mod Lookups
 mod Seams
 mod SerialCalls
-mod SerialHistories
-mod SitesOfTrees
+pub mod SitesOfTrees
 mod Statements
 mod StraightBodies
 mod SumTrees

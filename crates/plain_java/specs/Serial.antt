@@ -1,9 +1,8 @@
--- What histories in which calls don't interleave give, and one of them.
-use Rattle.std.specs.Prelude.{◌≡◌, ℕ, ◌+◌, List, [], ◌∷◌, ◌++◌, None, length}
+-- What histories in which calls don't interleave give.
+use Rattle.std.specs.Prelude.{◌≡◌, List, ◌++◌, length}
 use Rattle.sdg_base.specs.declared.val.Outcome.{Outcome}
 use Rattle.sdg_base.specs.declared.call.Call.{Call}
 use Rattle.sdg_base.specs.declared.call.Step.{Step}
-use Rattle.sdg_base.specs.declared.call.Step.TheVariants.{Begin, Block}
 use Rattle.java_tree.specs.declared.tree.Class.{Class}
 use Rattle.access_blocks.specs.Source.{Explains, numbered}
 use Rattle.access_blocks.specs.Serial.{IsSerial}
@@ -27,14 +26,3 @@ SerialIsPlain =
     → length outcomes ≡ length calls
     → Explains class calls history (numbered 1 outcomes)
     → ArePlain class calls outcomes
-
--- ---- the history in which each call begins and runs its one block before the next call begins
-
--- these calls, the first of them with this number
-abbrev pub serial_from : ℕ → List Call → List Step
-serial_from n [] = []
-serial_from n (call ∷ calls) = Begin n ∷ Block n None ∷ serial_from (n + 1) calls
-
--- calls count from 1
-abbrev pub serial : List Call → List Step
-serial calls = serial_from 1 calls

@@ -11,7 +11,8 @@ use Rattle.std.proofs.lemmas.Option.{slice_get-get_or}
 use Rattle.sdg_base.specs.declared.port.Port.{Port}
 use Rattle.sdg_base.specs.declared.port.Port.TheVariants as port
 use Rattle.run_text.specs.Index.{IsFirstField}
-use Rattle.run_text.specs.Schedules.{Words, IsCellOf, IsSenderOf, HasFirstField, port_text, IsNoCell, IsNoSender}
+use Rattle.placement.specs.Ports.{IsCellAmong, IsSenderAmong}
+use Rattle.run_text.specs.Schedules.{Words, HasFirstField, port_text, IsNoCell, IsNoSender}
 use Rattle.run_text.specs.ScheduleReading.{IsCellText, IsSenderText}
 use Rattle.run_text.proofs.Decimal.{lacks, long_of_byte}
 use Rattle.run_text.proofs.Rules.{slice_get-take}
@@ -90,7 +91,7 @@ record SlotOf (fields : Words) (slots : ℕ) (name number : List ℕ) (p : Port)
   name_is : name_at fields field ≡ name
   number_is : decimal slot ≡ number
 
-slot_from : (fields : Words) (slots : ℕ) (word name number : List ℕ) (p : Port) → slots ≤ 255 → word ≢ codes "in" → word ≢ codes "join" → (name ++ 47 ∷ number ≡ word) × All (λ b. b ≢ 47) number → IsCellOf (length fields) slots p → port_text fields p ≡ word → SlotOf fields slots name number p
+slot_from : (fields : Words) (slots : ℕ) (word name number : List ℕ) (p : Port) → slots ≤ 255 → word ≢ codes "in" → word ≢ codes "join" → (name ++ 47 ∷ number ≡ word) × All (λ b. b ≢ 47) number → IsCellAmong (length fields) slots p → port_text fields p ≡ word → SlotOf fields slots name number p
 slot_from fields slots word name number port.Caller few a b parts cell text = absurd cell
 slot_from fields slots word name number port.Sink few a b parts cell text = absurd cell
 slot_from fields slots word name number port.Front few a b parts cell text = absurd (a (sym text))
@@ -143,7 +144,7 @@ no_sender fields slots word a none port.Join sender text = none port.Join sender
 no_sender fields slots word a none (port.Inst f n) sender text = absurd sender
 no_sender fields slots word a none (port.Slot f s) sender text = none (port.Slot f s) sender text
 
-pub sender_from_cell : (fields slots : ℕ) (p : Port) → IsCellOf fields slots p → IsSenderOf fields slots p
+pub sender_from_cell : (fields slots : ℕ) (p : Port) → IsCellAmong fields slots p → IsSenderAmong fields slots p
 sender_from_cell fields slots port.Caller cell = absurd cell
 sender_from_cell fields slots port.Sink cell = absurd cell
 sender_from_cell fields slots port.Front cell = cell
@@ -157,14 +158,14 @@ sender_text fields slots word (Some p) a c = record { sender = sender_from_cell 
 
 -- ---- A word is that of one port.
 
-one_slot : (fields : Words) (slots f s g t : ℕ) → slots ≤ 255 → IsCellOf (length fields) slots (port.Slot f s) → IsCellOf (length fields) slots (port.Slot g t) → HasFirstField fields (port.Slot f s) → HasFirstField fields (port.Slot g t) → port_text fields (port.Slot f s) ≡ port_text fields (port.Slot g t) → port.Slot f s ≡ port.Slot g t
+one_slot : (fields : Words) (slots f s g t : ℕ) → slots ≤ 255 → IsCellAmong (length fields) slots (port.Slot f s) → IsCellAmong (length fields) slots (port.Slot g t) → HasFirstField fields (port.Slot f s) → HasFirstField fields (port.Slot g t) → port_text fields (port.Slot f s) ≡ port_text fields (port.Slot g t) → port.Slot f s ≡ port.Slot g t
 one_slot fields slots f s g t few p q first second same =
     let both = last_cut (name_at fields f) (name_at fields g) (decimal s) (decimal t) (number_no_slash s (omega (arith, p.1))) (number_no_slash t (omega (arith, q.1))) same in
     let fields_same : f ≡ g = one_field fields f g p.0 q.0 first second both.0 in
     let slots_same : s ≡ t = decimal_injective s t (omega (arith, p.1)) (omega (arith, q.1)) both.1 in
     ap (λ (n : ℕ). port.Slot n s) fields_same ∙ ap (λ (n : ℕ). port.Slot g n) slots_same
 
-pub one_sender : (fields : Words) (slots : ℕ) (p q : Port) → slots ≤ 255 → IsSenderOf (length fields) slots p → IsSenderOf (length fields) slots q → HasFirstField fields p → HasFirstField fields q → port_text fields p ≡ port_text fields q → p ≡ q
+pub one_sender : (fields : Words) (slots : ℕ) (p q : Port) → slots ≤ 255 → IsSenderAmong (length fields) slots p → IsSenderAmong (length fields) slots q → HasFirstField fields p → HasFirstField fields q → port_text fields p ≡ port_text fields q → p ≡ q
 one_sender fields slots port.Sink q few a b f g same = absurd a
 one_sender fields slots (port.Inst x y) q few a b f g same = absurd a
 one_sender fields slots port.Caller port.Sink few a b f g same = absurd b
@@ -192,6 +193,6 @@ one_sender fields slots (port.Slot x y) port.Front few a b f g same = absurd (no
 one_sender fields slots (port.Slot x y) port.Join few a b f g same = absurd (no_seam (name_at fields x) (codes "join") (decimal y) join_no_slash (sym same))
 one_sender fields slots (port.Slot x y) (port.Slot v w) few a b f g same = one_slot fields slots x y v w few a b f g same
 
-pub one_cell : (fields : Words) (slots : ℕ) (p q : Port) → slots ≤ 255 → IsCellOf (length fields) slots p → IsCellOf (length fields) slots q → HasFirstField fields p → HasFirstField fields q → port_text fields p ≡ port_text fields q → p ≡ q
+pub one_cell : (fields : Words) (slots : ℕ) (p q : Port) → slots ≤ 255 → IsCellAmong (length fields) slots p → IsCellAmong (length fields) slots q → HasFirstField fields p → HasFirstField fields q → port_text fields p ≡ port_text fields q → p ≡ q
 one_cell fields slots p q few a b f g same =
     one_sender fields slots p q few (sender_from_cell (length fields) slots p a) (sender_from_cell (length fields) slots q b) f g same

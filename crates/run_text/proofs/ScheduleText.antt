@@ -12,7 +12,8 @@ use Rattle.placement.specs.declared.event.Schedule.{Schedule as ScheduleOf}
 use Rattle.run_text.specs.declared.error.ScheduleRule.{ScheduleRule}
 use Rattle.run_text.specs.declared.error.ScheduleRule.TheVariants.{Plain, Header, Event, Port, Number, Limit}
 use Rattle.run_text.specs.Lines.{is_skipped, said_lines}
-use Rattle.run_text.specs.Schedules.{Words, IsHeaderLine, plain_header, IsEventLine, AreOf, IsSchedule, FirstBreaks, LaterBreaks, Breaks, BreaksAt, IsFirstScheduleBreak, rule_number}
+use Rattle.placement.specs.Plain.{plain_header}
+use Rattle.run_text.specs.Schedules.{Words, IsHeaderLine, IsEventLine, AreOf, IsSchedule, FirstBreaks, LaterBreaks, Breaks, BreaksAt, IsFirstScheduleBreak, rule_number}
 use Rattle.run_text.specs.ScheduleReading.{IsLeast, IsNextSaid}
 use Rattle.run_text.proofs.Arguments.{AllZip_push}
 use Rattle.run_text.proofs.Rules.{slice_get-take}

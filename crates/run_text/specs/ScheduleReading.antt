@@ -12,7 +12,8 @@ use Rattle.run_text.specs.declared.error.TextError.{TextError}
 use Rattle.run_text.specs.declared.error.TextError.TheVariants as t
 use Rattle.run_text.specs.Lines.{is_skipped, said_lines}
 use Rattle.run_text.specs.Parts.{parts_of}
-use Rattle.run_text.specs.Schedules.{Words, IsCellOf, IsSenderOf, Fits, HasFirstField, HasFirstFields, port_text, take_words, sink_words, event_words, HasStrangePort, HasNoPick, rule_number}
+use Rattle.placement.specs.Ports.{IsCellAmong, IsSenderAmong}
+use Rattle.run_text.specs.Schedules.{Words, Fits, HasFirstField, HasFirstFields, port_text, take_words, sink_words, event_words, HasStrangePort, HasNoPick, rule_number}
 
 -- the words behind a space; none where there is no space
 abbrev pub coming : Option (Bor (List ℕ)) → Words
@@ -30,13 +31,13 @@ words_of (w.Sink from) = sink_words from.now
 
 -- the cell that is written so
 pub record IsCellText (fields : Words) (slots : ℕ) (word : List ℕ) (p : PortOf) : Type 0 where
-  pub cell : IsCellOf (length fields) slots p
+  pub cell : IsCellAmong (length fields) slots p
   pub first : HasFirstField fields p
   pub text : port_text fields p ≡ word
 
 -- the sender that is written so
 pub record IsSenderText (fields : Words) (slots : ℕ) (word : List ℕ) (p : PortOf) : Type 0 where
-  pub sender : IsSenderOf (length fields) slots p
+  pub sender : IsSenderAmong (length fields) slots p
   pub first : HasFirstField fields p
   pub text : port_text fields p ≡ word
 

@@ -7,6 +7,8 @@ use Rattle.placement.specs.declared.event.Header.{Header as HeaderOf}
 use Rattle.placement.specs.declared.event.Event.{Event as EventOf}
 use Rattle.placement.specs.declared.event.Event.TheVariants as event
 use Rattle.placement.specs.declared.event.Schedule.{Schedule}
+use Rattle.placement.specs.Plain.{plain_header}
+use Rattle.placement.specs.Ports.{IsCellAmong, IsSenderAmong}
 use Rattle.run_text.specs.declared.error.TextError.{TextError}
 use Rattle.run_text.specs.declared.error.TextError.TheVariants as t
 use Rattle.run_text.specs.declared.error.ScheduleRule.{ScheduleRule}
@@ -42,10 +44,6 @@ pub record IsHeaderLine (line : List ℕ) (h : HeaderOf) : Type 0 where
   pub range : IsInRange h
   pub words : words line ≡ header_words h
 
--- what a text without a header stands on
-abbrev pub plain_header : HeaderOf
-plain_header = record { nodes = 1; slots = 1; stores = 1; width = 1 }
-
 -- ---- events
 
 abbrev pub port_text : Words → PortOf → List ℕ
@@ -55,17 +53,6 @@ port_text fields port.Front = codes "in"
 port_text fields port.Join = codes "join"
 port_text fields (port.Slot field slot) = unwrap_or (slice_get fields field) [] ++ (codes "/" ++ decimal slot)
 port_text fields (port.Inst field number) = unwrap_or (slice_get fields field) [] ++ (codes "#" ++ decimal number)
-
--- a cell of so many fields with so many slots each
-abbrev pub IsCellOf : ℕ → ℕ → PortOf → Type 0
-IsCellOf fields slots port.Front = Unit {0}
-IsCellOf fields slots port.Join = Unit {0}
-IsCellOf fields slots (port.Slot field slot) = (field < fields) × (slot < slots)
-IsCellOf fields slots p = ⊥
-
-abbrev pub IsSenderOf : ℕ → ℕ → PortOf → Type 0
-IsSenderOf fields slots port.Caller = Unit {0}
-IsSenderOf fields slots p = IsCellOf fields slots p
 
 abbrev pub take_words : List ℕ → List ℕ → List ℕ → Words
 take_words to from pick = codes "take" ∷ to ∷ from ∷ pick ∷ []
@@ -79,8 +66,8 @@ event_words fields (event.Sink from) = sink_words (port_text fields from)
 
 -- a take by a cell from a cell or the caller with a pick below 64, or a commit of a cell's result
 abbrev pub Fits : ℕ → ℕ → EventOf → Type 0
-Fits fields slots (event.Take to from pick) = IsCellOf fields slots to × IsSenderOf fields slots from × (pick < 64)
-Fits fields slots (event.Sink from) = IsCellOf fields slots from
+Fits fields slots (event.Take to from pick) = IsCellAmong fields slots to × IsSenderAmong fields slots from × (pick < 64)
+Fits fields slots (event.Sink from) = IsCellAmong fields slots from
 
 -- A slot's field is the first of its name: in a class no two have one name, and where two had, the first would count.
 abbrev pub HasFirstField : Words → PortOf → Type 0
@@ -139,10 +126,10 @@ pub data IsEventForm (ws : Words) : Type 0 where
   SinkForm : (from : List ℕ) → ws ≡ sink_words from → IsEventForm ws
 
 abbrev pub IsNoCell : Words → ℕ → List ℕ → Type 0
-IsNoCell fields slots word = (p : PortOf) → IsCellOf (length fields) slots p → port_text fields p ≢ word
+IsNoCell fields slots word = (p : PortOf) → IsCellAmong (length fields) slots p → port_text fields p ≢ word
 
 abbrev pub IsNoSender : Words → ℕ → List ℕ → Type 0
-IsNoSender fields slots word = (p : PortOf) → IsSenderOf (length fields) slots p → port_text fields p ≢ word
+IsNoSender fields slots word = (p : PortOf) → IsSenderAmong (length fields) slots p → port_text fields p ≢ word
 
 -- a port that such fields with so many slots each can't have
 pub data HasStrangePort (fields : Words) (slots : ℕ) (ws : Words) : Type 0 where

@@ -14,18 +14,10 @@ use crate::event::event_of;
 use crate::header::header_of;
 use crate::index::field_index_of;
 use crate::line::{first_line, skips};
-use placement::{Header, Schedule};
+use placement::Schedule;
 use sdg_base::Name;
 use sqlite_items::Items;
 use std::alloc::Global;
-
-/// What a text without lines stands on.
-const PLAIN: Header = Header {
-    nodes: 1,
-    slots: 1,
-    stores: 1,
-    width: 1,
-};
 
 /// Reads the schedule of a text, in which a class has these partitioned fields by number. Lines end with
 /// LF, CR LF or the end of the text, and those that are empty or begin with `#` are skipped. The first line is
@@ -65,18 +57,15 @@ fn schedule_of(alloc: Global, fields: &[Name], bytes: &[u8]) -> Result<Schedule,
     ensures bad { IfErr result (IsScheduleRefusal fields.now (lines bytes.now)) }
 {
     let index = field_index_of(alloc, fields)?;
-    let mut events = Items::new(alloc);
     let Some((skipped, first, mut rest)) = next_said(bytes) else {
-        return Ok(Schedule {
-            header: PLAIN,
-            events,
-        });
+        return Ok(Schedule::plain(alloc));
     };
     let mut number = skipped + 1;
     let header = match header_of(first) {
         Ok(header) => header,
         Err(rule) => return Err(bad(number, rule)),
     };
+    let mut events = Items::new(alloc);
     while let Some((line, more)) = first_line(rest) {
         rest = more;
         number += 1;

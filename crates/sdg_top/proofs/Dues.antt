@@ -90,7 +90,7 @@ IsOfTexts s = (s ≡ status.Class) ⊎ ((s ≡ status.Text) ⊎ (s ≡ status.Do
 schedule_answer : (class : StraightClass) (calls : List Call) (o : Option Text) (s : Status) (t : Text) → DueForSchedule class calls o s t → IsOfTexts s
 schedule_answer class calls o s t (RefusesSchedule text line rule broken) = inr (inl refl)
 schedule_answer class calls o s t (ReportedSchedule text schedule report is reports) = inr (inr refl)
-schedule_answer class calls o s t (ReportedPlain report reports plain) = inr (inr refl)
+schedule_answer class calls o s t (ReportedPlain report reports) = inr (inr refl)
 
 calls_answer : (class : StraightClass) (calls_text : Text) (o : Option Text) (s : Status) (t : Text) → DueForCalls class calls_text o s t → IsOfTexts s
 calls_answer class calls_text o s t (RefusesCalls line rule broken) = inr (inl refl)

@@ -1,10 +1,9 @@
 -- What the tokens and the errors of a text say of the text.
-use Rattle.std.proofs.Common.{◌≡◌, ℕ, List, map, Result, Ok, Err, ◌⊎◌, inl, inr, codes, refl, ap, sym, subst, ◌∙◌}
+use Rattle.std.proofs.Common.{◌≡◌, List, map, Result, Ok, Err, ◌⊎◌, inl, inr, codes, ap, sym, subst, ◌∙◌}
 use Rattle.java_tree.specs.declared.token.Kind.{Kind}
 use Rattle.java_tree.specs.declared.token.Place.{Place}
 use Rattle.java_tree.specs.declared.token.Token.{Token}
 use Rattle.java_tree.specs.declared.tree.Class.{Class}
-use Rattle.java_tree.specs.Tokens.{tokens_of}
 use Rattle.java_lexer.specs.declared.lexer.LexError.{LexError}
 use Rattle.java_lexer.specs.declared.lexer.LexError.TheVariants as error
 use Rattle.java_lexer.specs.Places.{first_place}
@@ -14,12 +13,11 @@ use Rattle.java_parser.specs.declared.error.ParseError.TheVariants as parse_erro
 use Rattle.early_forms.specs.declared.straight.StraightClass.{StraightClass}
 use Rattle.early_forms.specs.Trees.{class_tree}
 use Rattle.early_forms.specs.Names.{IsProper}
-use Rattle.sdg_top.specs.declared.accept.Phase.{Phase}
 use Rattle.sdg_top.specs.declared.accept.Phase.TheVariants as phase
 use Rattle.sdg_top.specs.declared.accept.Judgement.{Judgement}
 use Rattle.sdg_top.specs.declared.accept.Judgement.TheVariants.{Takes, Refuses}
-use Rattle.sdg_top.specs.Accepted.{Text, IsClassText, IsOnlyClass, IsRefused, AtByte, AtNumber, AtComment, NoSyntax, NoForm}
-use Rattle.sdg_top.specs.Acceptance.{phase_text, Judges, IsTaken, RefusesAt, HasTokens, JudgesTree, JudgesTokens}
+use Rattle.sdg_top.specs.Accepted.{Text, IsClassText, IsRefused, AtByte, AtNumber, AtComment, NoSyntax, NoForm}
+use Rattle.sdg_top.specs.Acceptance.{Judges, IsTaken, RefusesAt, HasTokens, JudgesTree, JudgesTokens}
 
 abbrev pub kinds : List Token → List Kind
 kinds tokens = map (λ t. t.kind) tokens

@@ -1,12 +1,12 @@
 -- The methods of a class of the straight form as a caller sees them.
-use Rattle.std.proofs.Common.{◌≡◌, ℕ, ◌^◌, ◌≤◌, List, [], ◌∷◌, ◌++◌, map, drop, length, ap, refl, sym, subst, ◌∙◌, arith}
+use Rattle.std.proofs.Common.{◌≡◌, ℕ, ◌^◌, ◌≤◌, List, [], ◌∷◌, ◌++◌, map, drop, length, ap, refl, sym, subst, ◌∙◌}
 use Rattle.std.specs.List.{filter_map}
 use Rattle.std.proofs.lemmas.List.{length-map, append-nil, drop_all}
 use Rattle.early_forms.specs.declared.straight.StraightMethod.{StraightMethod}
 use Rattle.early_forms.specs.declared.straight.StraightClass.{StraightClass}
 use Rattle.early_forms.specs.Names.{IsProper}
 use Rattle.early_forms.specs.Trees.{class_tree, method_tree, method_member, table_member, long_parameter}
-use Rattle.access_blocks.specs.Members.{field_name, method_in, fields, methods}
+use Rattle.access_blocks.specs.Members.{field_name, method_in, fields}
 use Rattle.run_text.specs.declared.entrance.ValueType.TheVariants.{Long}
 use Rattle.run_text.specs.declared.entrance.Entrance.{Entrance}
 use Rattle.sdg_top.specs.Accepted.{value_type_of, entrance_of, entrances_of}

@@ -1,7 +1,7 @@
 -- What a run needs: its numbers are in their ranges, its schedule's ports are the graph's, and step numbers are enough.
-use Rattle.std.proofs.Common.{◌≡◌, ℕ, ◌+◌, ◌*◌, ◌-◌, ◌^◌, ◌<◌, ◌≤◌, List, [], ◌∷◌, ◌++◌, length, map, refl, ap, sym, subst, ◌∙◌, arith, append_assoc}
-use Rattle.std.specs.List.{AllByRecursion, filter_map, flat_map}
-use Rattle.std.specs.Prelude.{min, slice_get, Result, Ok, Err, OnOk}
+use Rattle.std.proofs.Common.{◌≡◌, ℕ, ◌-◌, ◌^◌, ◌≤◌, List, [], ◌∷◌, ◌++◌, length, map, refl, ap, sym, subst, ◌∙◌, arith, append_assoc}
+use Rattle.std.specs.List.{AllByRecursion, filter_map}
+use Rattle.std.specs.Prelude.{min, slice_get}
 use Rattle.std.proofs.lemmas.List.{length-map}
 use Rattle.sdg_base.specs.declared.call.Call.{Call}
 use Rattle.sdg_base.specs.declared.item.Line.{Line}
@@ -20,17 +20,16 @@ use Rattle.early_forms.specs.Names.{IsProper}
 use Rattle.early_forms.specs.Trees.{class_tree}
 use Rattle.early_cutter.specs.Lowering.{table_field}
 use Rattle.early_cutter.specs.Cutting.{graph_of}
-use Rattle.early_cutter.specs.Agrees.{CallFits}
+use Rattle.plain_java.specs.Fits.{CallFits}
 use Rattle.early_cutter.specs.Runs.{EveryCallIsSafe, EveryRunAgrees, SerialRunsArePlain, PlainRunsInTurn, OrderedRunsArePlain, setup_of}
-use Rattle.run_text.specs.Schedules as schedule
 use Rattle.run_text.specs.Schedules.{IsInRange, Fits}
 use Rattle.cluster.specs.History.{Setup, Happening, Took, IsCell, call_of, shown, shown_entry, steps_of}
 use Rattle.cluster.specs.World.{World, event_of, first_world, words_of, world_of, results_of, kept}
-use Rattle.cluster.specs.Standing as standing
-use Rattle.cluster.specs.Standing.{IsReady, NamesPorts, past}
+use Rattle.cluster.specs.Standing.{IsReady, IsCellOf, IsSenderOf, NamesPorts, past}
 use Rattle.cluster.specs.declared.past.Past.{Past}
 use Rattle.agreement.specs.Results.{IsForCell, AreEnoughSteps}
-use Rattle.sdg_top.specs.Accepted.{plain_header, IsReport, IsPlainReport}
+use Rattle.placement.specs.Ports.{IsCellAmong, IsSenderAmong}
+use Rattle.sdg_top.specs.Accepted.{IsReport, RunsInOrder}
 use Rattle.sdg_top.specs.Report.{report_text}
 use Rattle.sdg_top.proofs.Members.{fields-class_tree}
 
@@ -50,21 +49,11 @@ ready class calls header safe proper fit few range = record {
 
 -- ---- the ports of events
 
-cell_named : (class : StraightClass) (header : Header) (p : Port) → schedule.IsCellOf (length class.fields) header.slots p → standing.IsCellOf (graph_of class) header p
-cell_named class header port.Caller is = absurd is
-cell_named class header port.Sink is = absurd is
-cell_named class header port.Front is = tt
-cell_named class header port.Join is = tt
-cell_named class header (port.Slot field at) is = (subst (λ (n : ℕ). field < n) (sym (as_many_fields class)) is.0, is.1)
-cell_named class header (port.Inst field at) is = absurd is
+cell_named : (class : StraightClass) (header : Header) (p : Port) → IsCellAmong (length class.fields) header.slots p → IsCellOf (graph_of class) header p
+cell_named class header p is = subst (λ (n : ℕ). IsCellAmong n header.slots p) (sym (as_many_fields class)) is
 
-sender_named : (class : StraightClass) (header : Header) (p : Port) → schedule.IsSenderOf (length class.fields) header.slots p → standing.IsSenderOf (graph_of class) header p
-sender_named class header port.Caller is = tt
-sender_named class header port.Sink is = absurd is
-sender_named class header port.Front is = tt
-sender_named class header port.Join is = tt
-sender_named class header (port.Slot field at) is = cell_named class header (port.Slot field at) is
-sender_named class header (port.Inst field at) is = absurd is
+sender_named : (class : StraightClass) (header : Header) (p : Port) → IsSenderAmong (length class.fields) header.slots p → IsSenderOf (graph_of class) header p
+sender_named class header p is = subst (λ (n : ℕ). IsSenderAmong n header.slots p) (sym (as_many_fields class)) is
 
 event_named : (class : StraightClass) (header : Header) (e : Event) → Fits (length class.fields) header.slots e → NamesPorts (graph_of class) header e
 event_named class header (event.Take to from pick) fits = (cell_named class header to fits.0, sender_named class header from fits.1)
@@ -75,7 +64,7 @@ pub all_named : (class : StraightClass) (header : Header) (events : List Event) 
 all_named class header [] fits = tt
 all_named class header (e ∷ events) fits = (event_named class header e fits.0, all_named class header events fits.1)
 
-is_cell : (fields slots : ℕ) (p : Port) → schedule.IsCellOf fields slots p → IsCell p
+is_cell : (fields slots : ℕ) (p : Port) → IsCellAmong fields slots p → IsCell p
 is_cell fields slots port.Caller is = absurd is
 is_cell fields slots port.Sink is = absurd is
 is_cell fields slots port.Front is = tt
@@ -126,32 +115,33 @@ printed_history (Took e ∷ hist) =
 
 -- ---- reports
 
+-- Without events calls run one after the other.
+runs_in_order : (class : StraightClass) (calls : List Call) (header : Header) → EveryRunAgrees → PlainRunsInTurn → OrderedRunsArePlain → IsProper class → AllByRecursion (CallFits class) calls → length calls ≤ 65536 → 1 ≤ header.slots
+    → RunsInOrder class calls header
+runs_in_order class calls header agree in_turn ordered proper fit few some =
+    let enough = enough_steps class calls header [] few (omega arith) in
+    let turns = in_turn class calls header proper fit some enough in
+    record {
+      serial = turns.serial;
+      plain = ordered (class_tree class) (setup_of class calls header) (agree class calls header [] proper fit some tt enough) turns;
+    }
+
 -- A text that is written of the world of the schedule is the report.
 pub reported : (class : StraightClass) (calls : List Call) (events : Schedule) (text : List ℕ)
-    → EveryRunAgrees → SerialRunsArePlain
+    → EveryRunAgrees → SerialRunsArePlain → PlainRunsInTurn → OrderedRunsArePlain
     → IsProper class → AllByRecursion (CallFits class) calls → length calls ≤ 65536 → IsInRange events.header
     → AllByRecursion (Fits (length class.fields) events.header.slots) events.events → length events.events ≤ 1000000
     → (let s = setup_of class calls events.header in
     let w = world_of s events.events in
     text ≡ report_text events.header class.fields (words_of s first_world events.events) [] (results_of s w) (steps_of w.hist) [] (min (kept s w) (2 ^ 64 - 1)))
     → IsReport class calls events text
-reported class calls events text agree serial proper fit few range named few_events is =
+reported class calls events text agree serial in_turn ordered proper fit few range named few_events is =
     let s = setup_of class calls events.header in
     let w = world_of s events.events in
     let agrees = agree class calls events.header events.events proper fit (let one = range.one_slot in omega (arith, one)) (all_for_cells _ _ events.events named) (enough_steps class calls events.header events.events few few_events) in
     record {
       agrees = agrees;
-      plain = λ in_turn. serial (class_tree class) s w agrees in_turn;
+      plain = serial (class_tree class) s w agrees;
+      in_order = λ none. runs_in_order class calls events.header agree in_turn ordered proper fit few (let one = range.one_slot in omega (arith, one));
       written = is ∙ ap (λ names. report_text events.header names (words_of s first_world events.events) [] (results_of s w) (steps_of w.hist) [] (min (kept s w) (2 ^ 64 - 1))) (sym (fields-class_tree class));
     }
-
--- Without events the results are those of plain Java in their order.
-pub plain_report : (class : StraightClass) (calls : List Call) → EveryRunAgrees → PlainRunsInTurn → OrderedRunsArePlain → IsProper class → AllByRecursion (CallFits class) calls → length calls ≤ 65536 → IsPlainReport class calls
-plain_report class calls agree in_turn ordered proper fit few =
-    let s = setup_of class calls plain_header in
-    let enough = enough_steps class calls plain_header [] few (omega arith) in
-    ordered (class_tree class) s (agree class calls plain_header [] proper fit (omega arith) tt enough) (in_turn class calls plain_header proper fit (omega arith) enough)
-
-pub on_ok : {A E : Type 0} {P : Type 0} (r : Result A E) → P → OnOk r P
-on_ok (Ok v) p = p
-on_ok (Err e) p = tt

@@ -1,8 +1,6 @@
 -- What the judgement of a class text says.
-use Rattle.std.specs.Prelude.{◌≡◌, ℕ, ◌≤◌, List, map, codes}
+use Rattle.std.specs.Prelude.{◌≡◌, ◌≤◌, List, codes}
 use Rattle.java_tree.specs.declared.token.Kind.{Kind}
-use Rattle.java_tree.specs.declared.token.Place.{Place}
-use Rattle.java_tree.specs.declared.token.Token.{Token}
 use Rattle.java_tree.specs.declared.tree.Class.{Class}
 use Rattle.java_tree.specs.Tokens.{tokens_of}
 use Rattle.java_tree.specs.Placed.{IsWellPlaced}

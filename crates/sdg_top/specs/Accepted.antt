@@ -25,7 +25,7 @@ use Rattle.run_text.specs.declared.entrance.ValueType.TheVariants as value_type
 use Rattle.run_text.specs.declared.entrance.Entrance.{Entrance}
 use Rattle.early_cutter.specs.Runs.{setup_of, ArePlainResults, ArePlainInOrder}
 use Rattle.cluster.specs.History.{steps_of}
-use Rattle.cluster.specs.World.{first_world, words_of, world_of, results_of, kept}
+use Rattle.cluster.specs.World.{World, first_world, words_of, world_of, results_of, kept}
 use Rattle.agreement.specs.Results.{RunAgrees}
 use Rattle.sdg_top.specs.Report.{report_text}
 
@@ -77,24 +77,23 @@ entrances_of class = map entrance_of (methods class)
 
 -- ---- the report
 
--- what a run without a schedule stands on: one node, one slot, one store, one instance
-abbrev pub plain_header : Header
-plain_header = record { nodes = 1; slots = 1; stores = 1; width = 1 }
+-- without events
+abbrev pub alone : StraightClass → List Call → Header → World
+alone class calls header = world_of (setup_of class calls header) []
 
-abbrev pub plain_schedule : Schedule
-plain_schedule = record { header = plain_header; events = [] }
+-- Without events calls run one after the other, and have the results of plain Java, in their order.
+pub record RunsInOrder (class : StraightClass) (calls : List Call) (header : Header) : Type 0 where
+  pub serial : IsSerial (steps_of (alone class calls header).hist)
+  pub plain : ArePlainInOrder (class_tree class) calls (results_of (setup_of class calls header) (alone class calls header))
 
 -- The report of calls of a class under a schedule: it is of the world that the schedule fixes, with what is kept as far as 64 bits can say it. There each call has one result; the history is
--- legal for the annotated source, whose outcomes the results are; and where calls don't interleave they are those of plain Java.
+-- legal for the annotated source, whose outcomes the results are; where calls don't interleave they are those of plain Java; and without events calls run one after the other.
 pub record IsReport (class : StraightClass) (calls : List Call) (schedule : Schedule) (report : Text) : Type 0 where
   pub agrees : RunAgrees (class_tree class) (setup_of class calls schedule.header) (world_of (setup_of class calls schedule.header) schedule.events)
   pub plain : IsSerial (steps_of (world_of (setup_of class calls schedule.header) schedule.events).hist)
       → ArePlainResults (class_tree class) calls (results_of (setup_of class calls schedule.header) (world_of (setup_of class calls schedule.header) schedule.events))
+  pub in_order : schedule.events ≡ [] → RunsInOrder class calls schedule.header
   pub written :
       let s = setup_of class calls schedule.header in
       let w = world_of s schedule.events in
       report ≡ report_text schedule.header (fields (class_tree class)) (words_of s first_world schedule.events) [] (results_of s w) (steps_of w.hist) [] (min (kept s w) (2 ^ 64 - 1))
-
--- Without events calls run one after the other, and have the results of plain Java, in their order.
-abbrev pub IsPlainReport : StraightClass → List Call → Type 0
-IsPlainReport class calls = ArePlainInOrder (class_tree class) calls (results_of (setup_of class calls plain_header) (world_of (setup_of class calls plain_header) []))

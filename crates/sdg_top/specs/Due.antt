@@ -7,6 +7,7 @@ use Rattle.early_forms.specs.declared.straight.StraightClass.{StraightClass}
 use Rattle.early_forms.specs.Names.{IsProper}
 use Rattle.early_forms.specs.Trees.{class_tree}
 use Rattle.placement.specs.declared.event.Schedule.{Schedule as Events}
+use Rattle.placement.specs.Plain.{plain_schedule}
 use Rattle.run_text.specs.Calls.{AreCalls, IsFirstBreak}
 use Rattle.run_text.specs.Schedules.{IsSchedule, IsFirstScheduleBreak}
 use Rattle.sdg_keep.specs.Faults.{Rises}
@@ -15,7 +16,7 @@ use Rattle.sdg_top.specs.declared.lines.InputText.TheVariants.{Calls, Schedule}
 use Rattle.sdg_top.specs.declared.status.Status.{Status}
 use Rattle.sdg_top.specs.declared.status.Status.TheVariants as status
 use Rattle.sdg_top.specs.Answers.{usage_line, class_refused_line, text_refused_line, unreadable_line, too_long_line}
-use Rattle.sdg_top.specs.Accepted.{Text, IsClassText, IsOnlyClass, IsRefused, entrances_of, plain_schedule, IsReport, IsPlainReport}
+use Rattle.sdg_top.specs.Accepted.{Text, IsClassText, IsOnlyClass, IsRefused, entrances_of, IsReport}
 
 -- ---- limits, in bytes
 
@@ -38,7 +39,7 @@ pub data DueForSchedule (class : StraightClass) (calls : List Call) : Option Tex
   -- the first line of the schedule that breaks a rule, with the least rule that it breaks
   RefusesSchedule : (text : Text) (line rule : ℕ) → IsFirstScheduleBreak class.fields (lines text) line rule → DueForSchedule class calls (Some text) status.Text (text_refused_line Schedule line rule)
   ReportedSchedule : (text : Text) (schedule : Events) (report : Text) → IsSchedule class.fields (lines text) schedule → IsReport class calls schedule report → DueForSchedule class calls (Some text) status.Done report
-  ReportedPlain : (report : Text) → IsReport class calls plain_schedule report → IsPlainReport class calls → DueForSchedule class calls None status.Done report
+  ReportedPlain : (report : Text) → IsReport class calls plain_schedule report → DueForSchedule class calls None status.Done report
 
 pub data DueForCalls (class : StraightClass) (calls_text : Text) (schedule_text : Option Text) : Status → Text → Type 0 where
   -- the first line of the calls that breaks a rule, with the least rule that it breaks

@@ -8,16 +8,17 @@ ghost use Rattle.sdg_base.specs.declared.call.Call.{Call};
 ghost use Rattle.early_forms.specs.declared.straight.StraightClass.{StraightClass as ClassOf};
 ghost use Rattle.early_forms.specs.Trees.{class_tree};
 ghost use Rattle.early_forms.specs.Names.{IsProper};
-ghost use Rattle.early_cutter.specs.Agrees.{CallFits};
+ghost use Rattle.plain_java.specs.Fits.{CallFits};
 ghost use Rattle.run_text.specs.Calls.{AreCalls};
 ghost use Rattle.sdg_top.specs.Accepted.{entrances_of};
 ghost use Rattle.sdg_top.specs.Due.{DueForSchedule, DueForCalls, DueForTexts, AreValid, IsValidSchedule, IsShort};
 
 use crate::accept::{Judgement, entrances, judge};
 use crate::lines::{InputText, class_refused, text_refused};
-use crate::machine::{run, run_plain};
+use crate::machine::run;
 use crate::status::Status;
 use early_forms::StraightClass;
+use placement::Schedule;
 use run_text::{TextError, read_calls, read_schedule};
 use sdg_base::{Bytes, Calls};
 use std::alloc::{AllocError, Global};
@@ -74,7 +75,7 @@ fn answer_schedule(
         Some(text) => answer_text(alloc, class, calls, text),
         None => Ok(Answer {
             status: Status::Done,
-            text: run_plain(alloc, class, calls)?,
+            text: run(alloc, class, calls, &Schedule::plain(alloc))?,
         }),
     }
 }

@@ -3,13 +3,13 @@
 ghost use Rattle.std.specs.Prelude.{◌≡◌, ◌≤◌, ◌-◌, ◌^◌, [], length, min, IfOk, OnOk};
 ghost use Rattle.std.specs.List.{AllByRecursion};
 ghost use Rattle.early_forms.specs.Names.{IsProper};
-ghost use Rattle.early_cutter.specs.Agrees.{CallFits};
+ghost use Rattle.plain_java.specs.Fits.{CallFits};
 ghost use Rattle.run_text.specs.Schedules.{IsInRange, Fits};
 ghost use Rattle.cluster.specs.History.{Setup, steps_of};
 ghost use Rattle.cluster.specs.World.{World, after_events, words_of, results_of as results, kept};
 ghost use Rattle.cluster.specs.Standing.{Holds, HasWorld, NamesPorts};
 ghost use Rattle.sdg_top.specs.Report.{report_text};
-ghost use Rattle.sdg_top.specs.Accepted.{plain_schedule, IsReport, IsPlainReport};
+ghost use Rattle.sdg_top.specs.Accepted.{IsReport};
 
 use crate::report::print_report;
 use crate::results::{history_of, results_of};
@@ -19,19 +19,10 @@ use early_cutter::{
     serial_runs_are_plain,
 };
 use early_forms::StraightClass;
-use placement::{Event, Header, Schedule, Word};
+use placement::{Event, Schedule, Word};
 use sdg_base::{Bytes, Calls};
-use sqlite_items::Items;
 use std::alloc::{AllocError, Global};
 use task_code::Graph;
-
-/// What a run without a schedule stands on.
-const PLAIN: Header = Header {
-    nodes: 1,
-    slots: 1,
-    stores: 1,
-    width: 1,
-};
 
 /// Takes events one after the other, and answers their words.
 fn take_events(
@@ -95,31 +86,11 @@ pub(crate) fn run(
     every_call_is_safe();
     every_run_agrees();
     serial_runs_are_plain();
+    plain_runs_in_turn();
+    ordered_runs_are_plain();
     let graph = graph_of(alloc, class)?;
     let mut cluster = Cluster::new(alloc, &graph, calls, schedule.header)?;
     let words = take_events(alloc, &mut cluster, &graph, schedule.events.as_slice())?;
     cluster.drain(alloc, &graph)?;
     report(alloc, class, &cluster, &words)
-}
-
-/// Runs calls of a class one after the other, and reports the run.
-pub(crate) fn run_plain(
-    alloc: Global,
-    class: &StraightClass,
-    calls: Calls,
-) -> Result<Bytes, AllocError>
-    requires proper { IsProper class.now }
-    requires fit { AllByRecursion (CallFits class.now) calls }
-    requires few { length calls ≤ 65536 }
-    ensures report { IfOk result (IsReport class.now calls plain_schedule) }
-    ensures plain { OnOk result (IsPlainReport class.now calls) }
-{
-    plain_runs_in_turn();
-    every_run_agrees();
-    ordered_runs_are_plain();
-    let schedule = Schedule {
-        header: PLAIN,
-        events: Items::new(alloc),
-    };
-    run(alloc, class, calls, &schedule)
 }

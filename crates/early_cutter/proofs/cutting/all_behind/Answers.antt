@@ -1,4 +1,4 @@
-use Rattle.std.proofs.Common.{refl, sym, ap, ◌∙◌, ◌≡◌, [], drop, length, reverse, arith}
+use Rattle.std.proofs.Common.{refl, sym, ap, ◌∙◌, ◌≡◌, [], drop, reverse, arith}
 use Rattle.std.proofs.lemmas.List.{drop_all}
 use Rattle.early_cutter.proofs.LiveSets.{none_filter}
 use Rattle.early_cutter.proofs.cutting.all_behind.Goals as goal

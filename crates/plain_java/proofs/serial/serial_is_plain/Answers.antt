@@ -1,5 +1,4 @@
 use Rattle.plain_java.proofs.SerialCalls.{first_are_plain, serial_is_plain}
-use Rattle.plain_java.proofs.SerialHistories.{serial_is_serial}
 use Rattle.plain_java.proofs.serial.serial_is_plain.Goals as goal
 
 pub returns-clause-plain : goal.returns-clause-plain
@@ -7,6 +6,3 @@ returns-clause-plain c = serial_is_plain
 
 pub returns-clause-first : goal.returns-clause-first
 returns-clause-first c = first_are_plain
-
-pub returns-clause-serial : goal.returns-clause-serial
-returns-clause-serial c = serial_is_serial

@@ -1,4 +1,4 @@
-use Rattle.std.proofs.Common.{Option, Some, List, ℕ, Bor, ap, refl, sym, subst}
+use Rattle.std.proofs.Common.{Option, Some, ap, refl, sym, subst}
 use Rattle.std.proofs.lemmas.Result.{IfOk-weaker}
 use Rattle.std.specs.Option.{option_copied, option_map}
 use Rattle.std.specs.String.{string_bytes}
