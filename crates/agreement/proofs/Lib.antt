@@ -10,3 +10,4 @@ mod Completion
 pub mod Outcomes
 pub mod Safety
 pub mod Serials
+pub mod Again

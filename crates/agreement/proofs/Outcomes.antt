@@ -337,7 +337,7 @@ event_reaches s class Fits Agrees w most steps some sim fit r (event.Take to fro
     more n m l = omega arith
 event_reaches s class Fits Agrees w most steps some sim fit r (event.Sink from) h = commit_reaches s class Fits Agrees w most steps r from (next_result s w from) refl
 
-events_reach : (s : Setup) (class : Class) (Fits : Call → Type 0) (Agrees : Port → Item → CallState → Type 0) (w : World) (most steps : ℕ) (events : List Event) → 1 ≤ s.header.slots → Simulation class s.graph s.header.slots Fits Agrees → AllFit Fits s.calls
+pub events_reach : (s : Setup) (class : Class) (Fits : Call → Type 0) (Agrees : Port → Item → CallState → Type 0) (w : World) (most steps : ℕ) (events : List Event) → 1 ≤ s.header.slots → Simulation class s.graph s.header.slots Fits Agrees → AllFit Fits s.calls
     → Reached s class Agrees w most steps → AreForCells events → Reached s class Agrees (after_events s w events) most (steps + length events)
 events_reach s class Fits Agrees w most steps [] some sim fit r h = record { standing = r.standing; left_over = r.left_over; few_steps = same w.next_step steps r.few_steps }
   where
@@ -385,17 +385,26 @@ first_potential s class Agrees st is =
 
 -- ---- whole runs
 
-pub runs_agree : (s : Setup) (class : Class) (Fits : Call → Type 0) (Agrees : Port → Item → CallState → Type 0) (events : List Event) → 1 ≤ s.header.slots → Simulation class s.graph s.header.slots Fits Agrees → AllFit Fits s.calls
-    → AreForCells events → AreEnoughSteps s events → RunAgrees class s (world_of s events)
-runs_agree s class Fits Agrees events some sim fit h steps =
+-- the first world, with all that is left of a run
+pub first_reached : (s : Setup) (class : Class) (Fits : Call → Type 0) (Agrees : Port → Item → CallState → Type 0) → Simulation class s.graph s.header.slots Fits Agrees → AllFit Fits s.calls
+    → Reached s class Agrees first_world (most_events s) 1
+first_reached s class Fits Agrees sim fit =
     let st = first_stands s class Fits Agrees sim fit in
-    let r : Reached s class Agrees first_world (most_events s) 1 = record { standing = st; left_over = first_potential s class Agrees st (first_now s class Fits Agrees sim fit); few_steps = itself 1 } in
-    let q = events_reach s class Fits Agrees first_world (most_events s) 1 events some sim fit r h in
-    completed_agrees s class Fits Agrees (world_of s events) sim
-    (drain_completes s class Fits Agrees (most_events s) (after_events s first_world events) some sim fit q.standing q.left_over (enough (after_events s first_world events).next_step (length events) (most_events s) q.few_steps steps))
+    record { standing = st; left_over = first_potential s class Agrees st (first_now s class Fits Agrees sim fit); few_steps = itself 1 }
   where
     itself : (n : ℕ) → n ≤ n
     itself n = omega arith
 
+-- Every run goes to completion.
+pub run_completes : (s : Setup) (class : Class) (Fits : Call → Type 0) (Agrees : Port → Item → CallState → Type 0) (events : List Event) → 1 ≤ s.header.slots → Simulation class s.graph s.header.slots Fits Agrees → AllFit Fits s.calls
+    → AreForCells events → AreEnoughSteps s events → Completed s class Agrees (world_of s events)
+run_completes s class Fits Agrees events some sim fit h steps =
+    let q = events_reach s class Fits Agrees first_world (most_events s) 1 events some sim fit (first_reached s class Fits Agrees sim fit) h in
+    drain_completes s class Fits Agrees (most_events s) (after_events s first_world events) some sim fit q.standing q.left_over (enough (after_events s first_world events).next_step (length events) (most_events s) q.few_steps steps)
+  where
     enough : (n k m : ℕ) → n ≤ 1 + k → k + 1 + m < last_step → n + m < last_step
     enough n k m l h = omega arith
+
+pub runs_agree : (s : Setup) (class : Class) (Fits : Call → Type 0) (Agrees : Port → Item → CallState → Type 0) (events : List Event) → 1 ≤ s.header.slots → Simulation class s.graph s.header.slots Fits Agrees → AllFit Fits s.calls
+    → AreForCells events → AreEnoughSteps s events → RunAgrees class s (world_of s events)
+runs_agree s class Fits Agrees events some sim fit h steps = completed_agrees s class Fits Agrees (world_of s events) sim (run_completes s class Fits Agrees events some sim fit h steps)

@@ -17,6 +17,7 @@ use Rattle.task_code.specs.Safe.{IsSafe}
 use Rattle.cluster.specs.History.{Setup, starts, steps_of}
 use Rattle.cluster.specs.World.{World, world_of, results_of, numbers_from}
 use Rattle.agreement.specs.Results.{Results, HasResult, RunAgrees, IsForCell, AreEnoughSteps}
+use Rattle.agreement.specs.Again.{RunsAgain}
 use Rattle.early_cutter.specs.Cutting.{graph_of}
 use Rattle.plain_java.specs.Fits.{CallFits}
 
@@ -34,6 +35,17 @@ EveryRunAgrees =
     → AllByRecursion IsForCell events
     → AreEnoughSteps (setup_of class calls header) events
     → RunAgrees (class_tree class) (setup_of class calls header) (world_of (setup_of class calls header) events)
+
+-- Under every schedule the history fixes the run: the events that take what it took lead to its history and its results.
+abbrev pub EveryRunRunsAgain : Type 0
+EveryRunRunsAgain =
+    (class : StraightClass) (calls : List Call) (header : Header) (events : List Event)
+    → IsProper class
+    → AllByRecursion (CallFits class) calls
+    → 1 ≤ header.slots
+    → AllByRecursion IsForCell events
+    → AreEnoughSteps (setup_of class calls header) events
+    → RunsAgain (setup_of class calls header) (world_of (setup_of class calls header) events)
 
 -- Without events calls run one after the other, and the results are in their order.
 pub record RunsInTurn (s : Setup) : Type 0 where

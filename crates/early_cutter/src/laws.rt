@@ -8,7 +8,7 @@ ghost use Rattle.agreement.specs.Simulation.{Simulation};
 ghost use Rattle.early_cutter.specs.Cutting.{graph_of};
 ghost use Rattle.plain_java.specs.Fits.{CallFits};
 ghost use Rattle.early_cutter.specs.Agrees.{Agrees};
-ghost use Rattle.early_cutter.specs.Runs.{EveryRunAgrees, PlainRunsInTurn, EveryCallIsSafe, SerialRunsArePlain, OrderedRunsArePlain};
+ghost use Rattle.early_cutter.specs.Runs.{EveryRunAgrees, EveryRunRunsAgain, PlainRunsInTurn, EveryCallIsSafe, SerialRunsArePlain, OrderedRunsArePlain};
 
 use plain_java::serial_is_plain;
 
@@ -23,6 +23,12 @@ pub fn graph_simulates()
 /// each call.
 pub fn every_run_agrees()
     ensures { EveryRunAgrees }
+{}
+
+/// Every run is run again by the events that take what it took: each is done, the history is the
+/// same, and so are the results.
+pub fn every_run_runs_again()
+    ensures { EveryRunRunsAgain }
 {}
 
 /// Without events calls run one after the other.
