@@ -21,7 +21,7 @@ use Rattle.early_forms.specs.Trees.{class_tree}
 use Rattle.early_cutter.specs.Lowering.{table_field}
 use Rattle.early_cutter.specs.Cutting.{graph_of}
 use Rattle.plain_java.specs.Fits.{CallFits}
-use Rattle.early_cutter.specs.Runs.{EveryCallIsSafe, EveryRunAgrees, SerialRunsArePlain, PlainRunsInTurn, OrderedRunsArePlain, setup_of}
+use Rattle.early_cutter.specs.Runs.{EveryCallIsSafe, EveryRunAgrees, EveryRunRunsAgain, SerialRunsArePlain, PlainRunsInTurn, OrderedRunsArePlain, setup_of}
 use Rattle.run_text.specs.Schedules.{IsInRange, Fits}
 use Rattle.cluster.specs.History.{Setup, Happening, Took, IsCell, call_of, shown, shown_entry, steps_of}
 use Rattle.cluster.specs.World.{World, event_of, first_world, words_of, world_of, results_of, kept}
@@ -128,20 +128,24 @@ runs_in_order class calls header agree in_turn ordered proper fit few some =
 
 -- A text that is written of the world of the schedule is the report.
 pub reported : (class : StraightClass) (calls : List Call) (events : Schedule) (text : List ℕ)
-    → EveryRunAgrees → SerialRunsArePlain → PlainRunsInTurn → OrderedRunsArePlain
+    → EveryRunAgrees → EveryRunRunsAgain → SerialRunsArePlain → PlainRunsInTurn → OrderedRunsArePlain
     → IsProper class → AllByRecursion (CallFits class) calls → length calls ≤ 65536 → IsInRange events.header
     → AllByRecursion (Fits (length class.fields) events.header.slots) events.events → length events.events ≤ 1000000
     → (let s = setup_of class calls events.header in
     let w = world_of s events.events in
     text ≡ report_text events.header class.fields (words_of s first_world events.events) [] (results_of s w) (steps_of w.hist) [] (min (kept s w) (2 ^ 64 - 1)))
     → IsReport class calls events text
-reported class calls events text agree serial in_turn ordered proper fit few range named few_events is =
+reported class calls events text agree runs_again serial in_turn ordered proper fit few range named few_events is =
     let s = setup_of class calls events.header in
     let w = world_of s events.events in
-    let agrees = agree class calls events.header events.events proper fit (let one = range.one_slot in omega (arith, one)) (all_for_cells _ _ events.events named) (enough_steps class calls events.header events.events few few_events) in
+    let some : 1 ≤ events.header.slots = let one = range.one_slot in omega (arith, one) in
+    let for_cells = all_for_cells _ _ events.events named in
+    let enough = enough_steps class calls events.header events.events few few_events in
+    let agrees = agree class calls events.header events.events proper fit some for_cells enough in
     record {
       agrees = agrees;
       plain = serial (class_tree class) s w agrees;
-      in_order = λ none. runs_in_order class calls events.header agree in_turn ordered proper fit few (let one = range.one_slot in omega (arith, one));
+      in_order = λ none. runs_in_order class calls events.header agree in_turn ordered proper fit few some;
+      again = runs_again class calls events.header events.events proper fit some for_cells enough;
       written = is ∙ ap (λ names. report_text events.header names (words_of s first_world events.events) [] (results_of s w) (steps_of w.hist) [] (min (kept s w) (2 ^ 64 - 1))) (sym (fields-class_tree class));
     }

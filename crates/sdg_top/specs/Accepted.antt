@@ -27,6 +27,7 @@ use Rattle.early_cutter.specs.Runs.{setup_of, ArePlainResults, ArePlainInOrder}
 use Rattle.cluster.specs.History.{steps_of}
 use Rattle.cluster.specs.World.{World, first_world, words_of, world_of, results_of, kept}
 use Rattle.agreement.specs.Results.{RunAgrees}
+use Rattle.agreement.specs.Again.{RunsAgain}
 use Rattle.sdg_top.specs.Report.{report_text}
 
 abbrev pub Text : Type 0
@@ -87,12 +88,14 @@ pub record RunsInOrder (class : StraightClass) (calls : List Call) (header : Hea
   pub plain : ArePlainInOrder (class_tree class) calls (results_of (setup_of class calls header) (alone class calls header))
 
 -- The report of calls of a class under a schedule: it is of the world that the schedule fixes, with what is kept as far as 64 bits can say it. There each call has one result; the history is
--- legal for the annotated source, whose outcomes the results are; where calls don't interleave they are those of plain Java; and without events calls run one after the other.
+-- legal for the annotated source, whose outcomes the results are; where calls don't interleave they are those of plain Java; without events calls run one after the other; and
+-- the history fixes the results.
 pub record IsReport (class : StraightClass) (calls : List Call) (schedule : Schedule) (report : Text) : Type 0 where
   pub agrees : RunAgrees (class_tree class) (setup_of class calls schedule.header) (world_of (setup_of class calls schedule.header) schedule.events)
   pub plain : IsSerial (steps_of (world_of (setup_of class calls schedule.header) schedule.events).hist)
       → ArePlainResults (class_tree class) calls (results_of (setup_of class calls schedule.header) (world_of (setup_of class calls schedule.header) schedule.events))
   pub in_order : schedule.events ≡ [] → RunsInOrder class calls schedule.header
+  pub again : RunsAgain (setup_of class calls schedule.header) (world_of (setup_of class calls schedule.header) schedule.events)
   pub written :
       let s = setup_of class calls schedule.header in
       let w = world_of s schedule.events in
