@@ -103,7 +103,7 @@ one_over n k = omega arith
 plus_none : (n : ℕ) → n ≤ n + 0
 plus_none n = omega arith
 
-events_in_steps : (s : Setup) (w : World) (n : ℕ) (events : List Event) → InSteps w n → InSteps (after_events s w events) (n + length events)
+pub events_in_steps : (s : Setup) (w : World) (n : ℕ) (events : List Event) → InSteps w n → InSteps (after_events s w events) (n + length events)
 events_in_steps s w n [] i = steps_more w n (n + 0) (plus_none n) i
 events_in_steps s w n (e ∷ events) i =
     steps_more _ (n + 1 + length events) (n + suc (length events)) (one_over n (length events)) (events_in_steps s (event_of s w e).0 (n + 1) events (event_in_steps s w n e i))
@@ -112,12 +112,12 @@ offer_in_steps : (s : Setup) (w : World) (n : ℕ) (o : Option Offer) → InStep
 offer_in_steps s w n None i = steps_more w n (n + 1) (one_further n) i
 offer_in_steps s w n (Some o) i = event_in_steps s w n (event_for o) i
 
-drained_in_steps : (s : Setup) (w : World) (n k : ℕ) → InSteps w n → InSteps (drained_for k s w) (n + k)
+pub drained_in_steps : (s : Setup) (w : World) (n k : ℕ) → InSteps w n → InSteps (drained_for k s w) (n + k)
 drained_in_steps s w n zero i = steps_more w n (n + 0) (plus_none n) i
 drained_in_steps s w n (suc k) i =
     steps_more _ (n + 1 + k) (n + suc k) (one_over n k) (drained_in_steps s (after_offer s w (lowest (offers s w))) (n + 1) k (offer_in_steps s w n (lowest (offers s w)) i))
 
-first_in_steps : InSteps first_world 1
+pub first_in_steps : InSteps first_world 1
 first_in_steps = record { numbered = tt; next_step = refl; few = omega arith }
 
 -- ---- an entry is taken again
@@ -144,7 +144,7 @@ taken_again s hist n e follows numbered going =
     (entry_is e ((cell s w e.cell).took e.from + 1) 0 n follows.next numbered.0 numbered.1)
 
 -- no number below the last step is the last step
-goes_on : (n : ℕ) → n < last_step → (n == last_step) ≡ false
+pub goes_on : (n : ℕ) → n < last_step → (n == last_step) ≡ false
 goes_on n l = false_from_ne_true (n == last_step) (λ e. above n (eqb-true n last_step e) l)
   where
     above : (n : ℕ) → n ≡ last_step → n < last_step → ⊥
@@ -213,7 +213,7 @@ takes_for_cells s cells (Took e ∷ hist) is = (is.0.is_cell, takes_for_cells s 
 abbrev pub NothingToTake : Setup → List Happening → Type 0
 NothingToTake s hist = (to from : Port) (x : Item) → Among to (cells_of s) → Among from (port.Caller ∷ cells_of s) → slice_get ((cells_after s hist from).gave to) ((cells_after s hist to).took from) ≡ Some x → ⊥
 
-nothing_to_take : (s : Setup) (w : World) → lowest (offers s w) ≡ None → (w.next_step == last_step) ≡ false → NothingToTake s w.hist
+pub nothing_to_take : (s : Setup) (w : World) → lowest (offers s w) ≡ None → (w.next_step == last_step) ≡ false → NothingToTake s w.hist
 nothing_to_take s w none going to from x m n e = none_offered (offers s w) _ none (item_offered s w to from x going m n e)
 
 pub record CommitsAll (s : Setup) (class : Class) (Agrees : Port → Item → CallState → Type 0) (hist : List Happening) (w : World) : Type 0 where

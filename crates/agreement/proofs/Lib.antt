@@ -11,3 +11,4 @@ pub mod Outcomes
 pub mod Safety
 pub mod Serials
 pub mod Again
+pub mod Kept

@@ -1,3 +1,4 @@
 pub mod Results
 pub mod Simulation
 pub mod Again
+pub mod Kept

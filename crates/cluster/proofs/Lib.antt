@@ -7,7 +7,7 @@ pub mod Lists
 mod Lowest
 mod Offers
 mod Outputs
-mod Places
+pub mod Places
 mod Reading
 mod Stands
 mod Worlds

@@ -1,5 +1,5 @@
 -- Runs of a class of the straight form, and what holds of every one of them.
-use Rattle.std.specs.Prelude.{◌≡◌, ℕ, ◌≤◌, List, [], map, length}
+use Rattle.std.specs.Prelude.{◌≡◌, ℕ, ◌^◌, ◌<◌, ◌≤◌, List, [], map, length}
 use Rattle.std.specs.List.{AllByRecursion}
 use Rattle.sdg_base.specs.declared.call.Call.{Call}
 use Rattle.sdg_base.specs.declared.port.Port.TheVariants as port
@@ -15,9 +15,10 @@ use Rattle.placement.specs.declared.event.Header.{Header}
 use Rattle.placement.specs.declared.event.Event.{Event}
 use Rattle.task_code.specs.Safe.{IsSafe}
 use Rattle.cluster.specs.History.{Setup, starts, steps_of}
-use Rattle.cluster.specs.World.{World, world_of, results_of, numbers_from}
+use Rattle.cluster.specs.World.{World, world_of, results_of, kept, numbers_from}
 use Rattle.agreement.specs.Results.{Results, HasResult, RunAgrees, IsForCell, AreEnoughSteps}
 use Rattle.agreement.specs.Again.{RunsAgain}
+use Rattle.agreement.specs.Kept.{KeepsItsSteps}
 use Rattle.early_cutter.specs.Cutting.{graph_of}
 use Rattle.plain_java.specs.Fits.{CallFits}
 
@@ -46,6 +47,18 @@ EveryRunRunsAgain =
     → AllByRecursion IsForCell events
     → AreEnoughSteps (setup_of class calls header) events
     → RunsAgain (setup_of class calls header) (world_of (setup_of class calls header) events)
+
+-- Under every schedule an item is kept for each step of the history, and they are fewer than 2 ^ 64.
+abbrev pub EveryRunKeepsItsSteps : Type 0
+EveryRunKeepsItsSteps =
+    (class : StraightClass) (calls : List Call) (header : Header) (events : List Event)
+    → IsProper class
+    → AllByRecursion (CallFits class) calls
+    → 1 ≤ header.slots
+    → AllByRecursion IsForCell events
+    → AreEnoughSteps (setup_of class calls header) events
+    → KeepsItsSteps (setup_of class calls header) (world_of (setup_of class calls header) events)
+    × (kept (setup_of class calls header) (world_of (setup_of class calls header) events) < 2 ^ 64)
 
 -- Without events calls run one after the other, and the results are in their order.
 pub record RunsInTurn (s : Setup) : Type 0 where

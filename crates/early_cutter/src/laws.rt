@@ -8,7 +8,7 @@ ghost use Rattle.agreement.specs.Simulation.{Simulation};
 ghost use Rattle.early_cutter.specs.Cutting.{graph_of};
 ghost use Rattle.plain_java.specs.Fits.{CallFits};
 ghost use Rattle.early_cutter.specs.Agrees.{Agrees};
-ghost use Rattle.early_cutter.specs.Runs.{EveryRunAgrees, EveryRunRunsAgain, PlainRunsInTurn, EveryCallIsSafe, SerialRunsArePlain, OrderedRunsArePlain};
+ghost use Rattle.early_cutter.specs.Runs.{EveryRunAgrees, EveryRunRunsAgain, EveryRunKeepsItsSteps, PlainRunsInTurn, EveryCallIsSafe, SerialRunsArePlain, OrderedRunsArePlain};
 
 use plain_java::serial_is_plain;
 
@@ -29,6 +29,11 @@ pub fn every_run_agrees()
 /// same, and so are the results.
 pub fn every_run_runs_again()
     ensures { EveryRunRunsAgain }
+{}
+
+/// Every run keeps an item for each step of its history, and fewer than 2 ^ 64.
+pub fn every_run_keeps_its_steps()
+    ensures { EveryRunKeepsItsSteps }
 {}
 
 /// Without events calls run one after the other.

@@ -16,8 +16,8 @@ mod sums;
 use cutting::tasks_of;
 use early_forms::StraightClass;
 pub use laws::{
-    every_call_is_safe, every_run_agrees, every_run_runs_again, graph_simulates,
-    ordered_runs_are_plain, plain_runs_in_turn, serial_runs_are_plain,
+    every_call_is_safe, every_run_agrees, every_run_keeps_its_steps, every_run_runs_again,
+    graph_simulates, ordered_runs_are_plain, plain_runs_in_turn, serial_runs_are_plain,
 };
 use lowering::lowered_methods;
 use sdg_base::{ClassName, Name};

@@ -1,8 +1,9 @@
 -- What a run needs: its numbers are in their ranges, its schedule's ports are the graph's, and step numbers are enough.
-use Rattle.std.proofs.Common.{◌≡◌, ℕ, ◌-◌, ◌^◌, ◌≤◌, List, [], ◌∷◌, ◌++◌, length, map, refl, ap, sym, subst, ◌∙◌, arith, append_assoc}
+use Rattle.std.proofs.Common.{◌≡◌, ℕ, ◌-◌, ◌^◌, ◌<◌, ◌≤◌, List, [], ◌∷◌, ◌++◌, length, map, refl, ap, sym, subst, ◌∙◌, arith, append_assoc}
 use Rattle.std.specs.List.{AllByRecursion, filter_map}
 use Rattle.std.specs.Prelude.{min, slice_get}
 use Rattle.std.proofs.lemmas.List.{length-map}
+use Rattle.std.proofs.Math.Nat.{min-eq_left}
 use Rattle.sdg_base.specs.declared.call.Call.{Call}
 use Rattle.sdg_base.specs.declared.item.Line.{Line}
 use Rattle.sdg_base.specs.declared.item.Line.TheVariants as line
@@ -18,10 +19,11 @@ use Rattle.placement.specs.declared.event.Word.{Word}
 use Rattle.early_forms.specs.declared.straight.StraightClass.{StraightClass}
 use Rattle.early_forms.specs.Names.{IsProper}
 use Rattle.early_forms.specs.Trees.{class_tree}
+use Rattle.access_blocks.specs.Members.{fields}
 use Rattle.early_cutter.specs.Lowering.{table_field}
 use Rattle.early_cutter.specs.Cutting.{graph_of}
 use Rattle.plain_java.specs.Fits.{CallFits}
-use Rattle.early_cutter.specs.Runs.{EveryCallIsSafe, EveryRunAgrees, EveryRunRunsAgain, SerialRunsArePlain, PlainRunsInTurn, OrderedRunsArePlain, setup_of}
+use Rattle.early_cutter.specs.Runs.{EveryCallIsSafe, EveryRunAgrees, EveryRunRunsAgain, EveryRunKeepsItsSteps, SerialRunsArePlain, PlainRunsInTurn, OrderedRunsArePlain, setup_of}
 use Rattle.run_text.specs.Schedules.{IsInRange, Fits}
 use Rattle.cluster.specs.History.{Setup, Happening, Took, IsCell, call_of, shown, shown_entry, steps_of}
 use Rattle.cluster.specs.World.{World, event_of, first_world, words_of, world_of, results_of, kept}
@@ -126,26 +128,35 @@ runs_in_order class calls header agree in_turn ordered proper fit few some =
       plain = ordered (class_tree class) (setup_of class calls header) (agree class calls header [] proper fit some tt enough) turns;
     }
 
+-- a number that 64 bits can say
+in_64_bits : (n : ℕ) → n < 2 ^ 64 → min n (2 ^ 64 - 1) ≡ n
+in_64_bits n l = min-eq_left (omega arith)
+
 -- A text that is written of the world of the schedule is the report.
 pub reported : (class : StraightClass) (calls : List Call) (events : Schedule) (text : List ℕ)
-    → EveryRunAgrees → EveryRunRunsAgain → SerialRunsArePlain → PlainRunsInTurn → OrderedRunsArePlain
+    → EveryRunAgrees → EveryRunRunsAgain → EveryRunKeepsItsSteps → SerialRunsArePlain → PlainRunsInTurn → OrderedRunsArePlain
     → IsProper class → AllByRecursion (CallFits class) calls → length calls ≤ 65536 → IsInRange events.header
     → AllByRecursion (Fits (length class.fields) events.header.slots) events.events → length events.events ≤ 1000000
     → (let s = setup_of class calls events.header in
     let w = world_of s events.events in
     text ≡ report_text events.header class.fields (words_of s first_world events.events) [] (results_of s w) (steps_of w.hist) [] (min (kept s w) (2 ^ 64 - 1)))
     → IsReport class calls events text
-reported class calls events text agree runs_again serial in_turn ordered proper fit few range named few_events is =
+reported class calls events text agree runs_again keeps serial in_turn ordered proper fit few range named few_events is =
     let s = setup_of class calls events.header in
     let w = world_of s events.events in
     let some : 1 ≤ events.header.slots = let one = range.one_slot in omega (arith, one) in
     let for_cells = all_for_cells _ _ events.events named in
     let enough = enough_steps class calls events.header events.events few few_events in
     let agrees = agree class calls events.header events.events proper fit some for_cells enough in
+    let all_kept = keeps class calls events.header events.events proper fit some for_cells enough in
     record {
       agrees = agrees;
       plain = serial (class_tree class) s w agrees;
       in_order = λ none. runs_in_order class calls events.header agree in_turn ordered proper fit few some;
       again = runs_again class calls events.header events.events proper fit some for_cells enough;
-      written = is ∙ ap (λ names. report_text events.header names (words_of s first_world events.events) [] (results_of s w) (steps_of w.hist) [] (min (kept s w) (2 ^ 64 - 1))) (sym (fields-class_tree class));
+      written =
+          is
+          ∙ ap (λ names. report_text events.header names (words_of s first_world events.events) [] (results_of s w) (steps_of w.hist) [] (min (kept s w) (2 ^ 64 - 1))) (sym (fields-class_tree class))
+          ∙ ap (report_text events.header (fields (class_tree class)) (words_of s first_world events.events) [] (results_of s w) (steps_of w.hist) []) (in_64_bits (kept s w) all_kept.1);
+      kept = all_kept.0;
     }

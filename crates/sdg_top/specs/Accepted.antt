@@ -1,5 +1,5 @@
 -- Which texts are accepted, why a class is refused, and the report that an accepted class's calls are due.
-use Rattle.std.specs.Prelude.{◌≡◌, ℕ, ◌≤◌, ◌-◌, ◌^◌, min, List, [], map, codes}
+use Rattle.std.specs.Prelude.{◌≡◌, ℕ, ◌≤◌, List, [], map, codes}
 use Rattle.sdg_base.specs.declared.call.Call.{Call}
 use Rattle.java_tree.specs.declared.token.Place.{Place}
 use Rattle.java_tree.specs.declared.token.Token.{Token}
@@ -28,6 +28,7 @@ use Rattle.cluster.specs.History.{steps_of}
 use Rattle.cluster.specs.World.{World, first_world, words_of, world_of, results_of, kept}
 use Rattle.agreement.specs.Results.{RunAgrees}
 use Rattle.agreement.specs.Again.{RunsAgain}
+use Rattle.agreement.specs.Kept.{KeepsItsSteps}
 use Rattle.sdg_top.specs.Report.{report_text}
 
 abbrev pub Text : Type 0
@@ -87,7 +88,7 @@ pub record RunsInOrder (class : StraightClass) (calls : List Call) (header : Hea
   pub serial : IsSerial (steps_of (alone class calls header).hist)
   pub plain : ArePlainInOrder (class_tree class) calls (results_of (setup_of class calls header) (alone class calls header))
 
--- The report of calls of a class under a schedule: it is of the world that the schedule fixes, with what is kept as far as 64 bits can say it. There each call has one result; the history is
+-- The report of calls of a class under a schedule: it is of the world that the schedule fixes. There each call has one result; the history is
 -- legal for the annotated source, whose outcomes the results are; where calls don't interleave they are those of plain Java; without events calls run one after the other; and
 -- the history fixes the results.
 pub record IsReport (class : StraightClass) (calls : List Call) (schedule : Schedule) (report : Text) : Type 0 where
@@ -99,4 +100,5 @@ pub record IsReport (class : StraightClass) (calls : List Call) (schedule : Sche
   pub written :
       let s = setup_of class calls schedule.header in
       let w = world_of s schedule.events in
-      report ≡ report_text schedule.header (fields (class_tree class)) (words_of s first_world schedule.events) [] (results_of s w) (steps_of w.hist) [] (min (kept s w) (2 ^ 64 - 1))
+      report ≡ report_text schedule.header (fields (class_tree class)) (words_of s first_world schedule.events) [] (results_of s w) (steps_of w.hist) [] (kept s w)
+  pub kept : KeepsItsSteps (setup_of class calls schedule.header) (world_of (setup_of class calls schedule.header) schedule.events)

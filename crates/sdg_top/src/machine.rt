@@ -15,8 +15,8 @@ use crate::report::print_report;
 use crate::results::{history_of, results_of};
 use cluster::Cluster;
 use early_cutter::{
-    every_call_is_safe, every_run_agrees, every_run_runs_again, graph_of, ordered_runs_are_plain,
-    plain_runs_in_turn, serial_runs_are_plain,
+    every_call_is_safe, every_run_agrees, every_run_keeps_its_steps, every_run_runs_again,
+    graph_of, ordered_runs_are_plain, plain_runs_in_turn, serial_runs_are_plain,
 };
 use early_forms::StraightClass;
 use placement::{Event, Schedule, Word};
@@ -86,6 +86,7 @@ pub(crate) fn run(
     every_call_is_safe();
     every_run_agrees();
     every_run_runs_again();
+    every_run_keeps_its_steps();
     serial_runs_are_plain();
     plain_runs_in_turn();
     ordered_runs_are_plain();

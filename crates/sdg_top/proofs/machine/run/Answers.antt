@@ -50,5 +50,5 @@ returns c =
     let of_words : P c.in_ok-graph.graph taken = subst (λ (ws : List Word). W c.in_ok-graph.graph taken ws) words is in
     let of_events : P c.in_ok-graph.graph events = subst (λ (es : List Event). P c.in_ok-graph.graph es) c.as_slice.ensures of_words in
     let of_class : P (graph_of c.args.class.now) events = subst (λ (g : Graph). P g events) c.in_ok-graph.ensures of_events in
-    reported c.args.class.now c.args.calls c.args.schedule.now text c.every_run_agrees.ensures c.every_run_runs_again.ensures c.serial_runs_are_plain.ensures c.plain_runs_in_turn.ensures c.ordered_runs_are_plain.ensures
+    reported c.args.class.now c.args.calls c.args.schedule.now text c.every_run_agrees.ensures c.every_run_runs_again.ensures c.every_run_keeps_its_steps.ensures c.serial_runs_are_plain.ensures c.plain_runs_in_turn.ensures c.ordered_runs_are_plain.ensures
     c.requires.proper c.requires.fit c.requires.few c.requires.range c.requires.named c.requires.few_events of_class) (c.report.ensures s (world_of s taken) end)
