@@ -88,9 +88,9 @@ pub record RunsInOrder (class : StraightClass) (calls : List Call) (header : Hea
   pub serial : IsSerial (steps_of (alone class calls header).hist)
   pub plain : ArePlainInOrder (class_tree class) calls (results_of (setup_of class calls header) (alone class calls header))
 
--- The report of calls of a class under a schedule: it is of the world that the schedule fixes. There each call has one result; the history is
--- legal for the annotated source, whose outcomes the results are; where calls don't interleave they are those of plain Java; without events calls run one after the other; and
--- the history fixes the results.
+-- The report of calls of a class under a schedule: it is of the world that the schedule fixes. There each call has one result; the history is legal for the annotated source, whose
+-- outcomes the results are; where calls don't interleave they are those of plain Java; without events calls run one after the other; the history fixes the results; and an item is kept
+-- for each of its steps.
 pub record IsReport (class : StraightClass) (calls : List Call) (schedule : Schedule) (report : Text) : Type 0 where
   pub agrees : RunAgrees (class_tree class) (setup_of class calls schedule.header) (world_of (setup_of class calls schedule.header) schedule.events)
   pub plain : IsSerial (steps_of (world_of (setup_of class calls schedule.header) schedule.events).hist)
