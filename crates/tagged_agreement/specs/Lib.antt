@@ -1,0 +1,6 @@
+pub mod Machine
+pub mod History
+pub mod Source
+pub mod Simulation
+pub mod Laws
+pub mod Example
