@@ -30,7 +30,9 @@ import javax.tools.ToolProvider;
  *
  * <p>RUNTIME is the folder with the sources of the annotations and of the state classes. Each CLASS has a line {@code
  * class CLASS}, and then a line {@code result C VALUE} for each call C, from 1, as in a report of java2sdg. Where Java
- * refuses the class or a call, a line {@code refused: WHY} ends what is said of the class, and the status is 1.
+ * refuses the class or a call, a line {@code refused: WHY} ends what is said of the class, and the status is 1. Where
+ * javac refuses a class, WHY is {@code javac: } and each error, with {@code ; } between them: its line and column, its
+ * code and its message. The place is that of the first token, and of a missing return that of the closing brace.
  */
 final class RunCalls {
   public static void main(String[] words) throws Exception {
@@ -98,7 +100,8 @@ final class RunCalls {
       Object value = method.invoke(object, arguments);
       return method.getReturnType() == void.class ? "void" : String.valueOf(value);
     } catch (InvocationTargetException thrown) {
-      return "throws " + thrown.getCause().getClass().getSimpleName();
+      String name = thrown.getCause().getClass().getSimpleName();
+      return name.equals("VectorLimit") ? "limit" : "throws " + name;
     }
   }
 
@@ -145,21 +148,41 @@ final class RunCalls {
     Class<?> compiled(Path source) throws Exception {
       Outputs outputs = new Outputs(files);
       DiagnosticCollector<JavaFileObject> found = new DiagnosticCollector<>();
-      if (!javac.getTask(null, outputs, found, options, null, List.of(new Source(text(source)))).call()) {
-        throw new Refused("javac: " + messages(found));
+      String text = text(source);
+      if (!javac.getTask(null, outputs, found, options, null, List.of(new Source(text))).call()) {
+        throw new Refused("javac: " + messages(found, text));
       }
       return new Loader(outputs.classes).loadClass(outputs.main);
     }
 
-    private static String messages(DiagnosticCollector<JavaFileObject> found) {
+    private static String messages(DiagnosticCollector<JavaFileObject> found, String text) {
       List<String> messages = new ArrayList<>();
       for (Diagnostic<?> each : found.getDiagnostics()) {
         if (each.getKind() == Diagnostic.Kind.ERROR) {
-          String place = each.getLineNumber() + ":" + each.getColumnNumber();
-          messages.add(place + " " + each.getMessage(null).replace('\n', ' '));
+          String message = each.getMessage(null).replace('\n', ' ').replace(';', ',');
+          messages.add(place(text, (int) place(each)) + " " + each.getCode() + " " + message);
         }
       }
       return String.join("; ", messages);
+    }
+
+    /** Where the first token stands. A `return` that is missing is missed at the closing brace. */
+    private static long place(Diagnostic<?> each) {
+      return each.getCode().endsWith(".missing.ret.stmt") ? each.getPosition() : each.getStartPosition();
+    }
+
+    /** The line and the column, from 1, at which so many characters stand before. CR, LF and CRLF end a line. */
+    private static String place(String text, int before) {
+      int line = 1;
+      int column = 1;
+      for (int i = 0; i < before && i < text.length(); i++) {
+        char each = text.charAt(i);
+        boolean goesOn = each == '\r' && i + 1 < text.length() && text.charAt(i + 1) == '\n';
+        boolean ends = (each == '\r' || each == '\n') && !goesOn;
+        line += ends ? 1 : 0;
+        column = ends ? 1 : column + 1;
+      }
+      return line + ":" + column;
     }
 
     @Override

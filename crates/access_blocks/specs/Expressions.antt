@@ -7,7 +7,7 @@ use Rattle.sdg_base.specs.declared.operator.BinOp.TheVariants as bin
 use Rattle.sdg_base.specs.Operators.{sum_of}
 use Rattle.java_tree.specs.declared.tree.Expr.{Expr}
 use Rattle.java_tree.specs.declared.tree.Value.{Value, out-Value}
-use Rattle.java_tree.specs.declared.tree.CallForm.TheOpen.{CallForm-F, Expr-F, Operation-F, Value-F}
+use Rattle.java_tree.specs.declared.tree.CallForm.TheOpen.{CallForm-F, Expr-F, Value-F}
 use Rattle.java_tree.specs.declared.tree.CallForm.TheOpen as e
 use Rattle.java_tree.specs.declared.tree.CallForm.TheFolds.{fold-Expr}
 use Rattle.access_blocks.specs.Variables.{Variables, named}
@@ -34,29 +34,21 @@ abbrev pub applied : BinOp → Option Val → Option Val → Option Val
 applied bin.Add a b = sum a b
 applied _ a b = None
 
--- from left to right (JLS 15.7)
-abbrev pub operated : Variables → Option Val → List (BinOp × Meaning) → Option Val
-operated variables so_far [] = so_far
-operated variables so_far (o ∷ os) = operated variables (applied o.0 so_far (o.1 variables)) os
-
-abbrev pub expr_step : Expr-F (Unit {0}) Meaning (BinOp × Meaning) Meaning → Meaning
+abbrev pub expr_step : Expr-F (Unit {0}) Meaning Meaning → Meaning
 expr_step (e.Number digits decimal long) variables = literal digits decimal long
 expr_step (e.Name name) variables = named name variables
 expr_step (e.Paren inner) variables = inner variables
-expr_step (e.Binary first operations) variables = operated variables (first variables) operations
+expr_step (e.Binary op left right) variables = applied op (left variables) (right variables)
 expr_step _ variables = None
 
-abbrev pub operation_step : Operation-F (Unit {0}) Meaning (BinOp × Meaning) Meaning → BinOp × Meaning
-operation_step o = (o.op, o.right)
-
-abbrev pub value_step : Value-F (Unit {0}) Meaning (BinOp × Meaning) Meaning → Meaning
+abbrev pub value_step : Value-F (Unit {0}) Meaning Meaning → Meaning
 value_step v = v.expr
 
-abbrev pub call_step : CallForm-F (Unit {0}) Meaning (BinOp × Meaning) Meaning → Unit {0}
+abbrev pub call_step : CallForm-F (Unit {0}) Meaning Meaning → Unit {0}
 call_step c = tt
 
 abbrev pub value_of : Expr → Meaning
-value_of = fold-Expr (Unit {0}) Meaning (BinOp × Meaning) Meaning call_step expr_step operation_step value_step
+value_of = fold-Expr (Unit {0}) Meaning Meaning call_step expr_step value_step
 
 -- a number as a long, where a long is wanted: on assignment, as an argument and on return (JLS 5.2, 5.3)
 abbrev pub as_long : Val → Option Val

@@ -3,10 +3,9 @@ use Rattle.std.specs.Prelude.{ℕ, Bool, true, false, not, ◌==◌, if◌then�
 use Rattle.std.specs.List.{list_any}
 use Rattle.std.specs.Str.{bytes_eq}
 use Rattle.java_tree.specs.declared.tree.Expr.{Expr, out-Expr}
-use Rattle.java_tree.specs.declared.tree.Operation.{Operation}
 use Rattle.java_tree.specs.declared.tree.Value.{Value, out-Value}
 use Rattle.java_tree.specs.declared.tree.CallForm.{CallForm, out-CallForm}
-use Rattle.java_tree.specs.declared.tree.CallForm.TheOpen.{CallForm-F, Expr-F, Operation-F, Value-F}
+use Rattle.java_tree.specs.declared.tree.CallForm.TheOpen.{CallForm-F, Expr-F, Value-F}
 use Rattle.java_tree.specs.declared.tree.CallForm.TheOpen as e
 use Rattle.java_tree.specs.declared.tree.CallForm.TheFolds.{fold-Expr}
 use Rattle.java_tree.specs.declared.tree.Simple.{Simple}
@@ -22,11 +21,11 @@ pub record Access : Type 0 where
   pub method : List ℕ
   pub args : List Value
 
-abbrev pub access_in : List (List ℕ) → CallForm-F CallForm Expr Operation Value → Option Access
+abbrev pub access_in : List (List ℕ) → CallForm-F CallForm Expr Value → Option Access
 access_in fields (e.Of object name args) = if list_any (bytes_eq object) fields then Some (record { field = object; method = name; args = args }) else None
 access_in fields _ = None
 
-abbrev pub expr_access : List (List ℕ) → Expr-F CallForm Expr Operation Value → Option Access
+abbrev pub expr_access : List (List ℕ) → Expr-F CallForm Expr Value → Option Access
 expr_access fields (e.Call c) = access_in fields (out-CallForm c)
 expr_access fields _ = None
 
@@ -61,14 +60,14 @@ pub data Key : Type 0 where
   Compound : Key
 
 -- Parentheses around a literal or a name are dropped.
-abbrev pub key_step : Expr-F (Unit {0}) Key (Unit {0}) (Unit {0}) → Key
+abbrev pub key_step : Expr-F (Unit {0}) Key (Unit {0}) → Key
 key_step (e.Number digits true false) = LiteralKey digits
 key_step (e.Name name) = VariableKey name
 key_step (e.Paren inner) = inner
 key_step _ = Compound
 
 abbrev pub key_of : Expr → Key
-key_of = fold-Expr (Unit {0}) Key (Unit {0}) (Unit {0}) (λ _. tt) key_step (λ _. tt) (λ _. tt)
+key_of = fold-Expr (Unit {0}) Key (Unit {0}) (λ _. tt) key_step (λ _. tt)
 
 -- A compound key is like no other, and not like itself.
 abbrev pub same_key : Key → Key → Bool

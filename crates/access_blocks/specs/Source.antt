@@ -1,6 +1,7 @@
 -- The annotated source, step by step: a configuration, what each step does to it, and a list of steps.
 use Rattle.std.specs.Prelude.{◌≡◌, ℕ, zero, suc, ◌+◌, List, [], ◌∷◌, map, Option, Some, None, slice_get, slice_set}
 use Rattle.std.specs.List.{AllByRecursion}
+use Rattle.sdg_base.specs.Limits.{turns_at_start}
 use Rattle.sdg_base.specs.declared.val.Val.{Val}
 use Rattle.sdg_base.specs.declared.val.Outcome.{Outcome}
 use Rattle.sdg_base.specs.declared.call.Call.{Call}
@@ -22,10 +23,6 @@ pub data CallState : Type 0 where
 pub record Source : Type 0 where
   pub tables : Tables
   pub calls : List CallState
-
--- each call starts with so many turns
-abbrev pub turns_at_start : ℕ
-turns_at_start = 100000
 
 abbrev pub start : Class → List Call → Source
 start class calls = record { tables = empty_tables class; calls = map (λ _. Fresh) calls }

@@ -1,5 +1,6 @@
 -- What a task gives: nothing, or one item for a slot or for the sink; the sink is given results alone.
 use Rattle.std.proofs.Common.{ℕ, zero, suc, ℤ, Bool, true, false, if◌then◌else◌, List, [], ◌∷◌, length, drop, Option, Some, None, slice_get, nat_lt}
+use Rattle.sdg_base.specs.Limits.{turns_at_start}
 use Rattle.sdg_base.specs.declared.val.Val.{Val}
 use Rattle.sdg_base.specs.declared.val.Val.TheVariants as val
 use Rattle.sdg_base.specs.declared.val.Outcome.{Outcome}
@@ -17,7 +18,7 @@ use Rattle.task_code.specs.declared.graph.TaskKind.TheVariants as task
 use Rattle.task_code.specs.declared.graph.TaskKind.{TaskKind}
 use Rattle.task_code.specs.declared.graph.Instr.{Instr}
 use Rattle.task_code.specs.declared.graph.Instr.TheVariants as instr
-use Rattle.task_code.specs.Machine.{Runs, Rest, Setting, carried, sent, sent_by_kind, cut_to, pushed, operated, casted, key_value, arguments, pushed_result, after_outcome, after_access, accessed, is_own_field, perform, run, start_method, run_in_method, run_task, runs, first_vars, carried_vars, turns_at_start}
+use Rattle.task_code.specs.Machine.{Runs, Rest, Setting, carried, sent, sent_by_kind, cut_to, pushed, operated, casted, key_value, arguments, pushed_result, after_outcome, after_access, accessed, is_own_field, perform, run, start_method, run_in_method, run_task, runs, first_vars, carried_vars}
 
 -- a result, where it is for the sink
 abbrev pub IsGiven : Port → Item → Type 0

@@ -31,6 +31,7 @@ one_get =
     record {
       name = codes "G";
       fields = codes "t" ∷ [];
+      places = [];
       methods = record { name = codes "get"; parameters = codes "k" ∷ codes "d" ∷ []; statements = []; ending = ending.Get (codes "t") (variable (codes "k")) } ∷ [];
     }
 

@@ -29,6 +29,7 @@ abbrev one_get : StraightClass
 one_get = record {
   name = codes "G";
   fields = codes "t" ∷ [];
+  places = [];
   methods = record { name = codes "get"; parameters = codes "k" ∷ codes "d" ∷ []; statements = []; ending = ending.Get (codes "t") (name (codes "k")) } ∷ [];
 }
 
@@ -52,6 +53,7 @@ abbrev two_tables : StraightClass
 two_tables = record {
   name = codes "Two";
   fields = codes "t" ∷ codes "u" ∷ [];
+  places = [];
   methods = record {
     name = codes "put";
     parameters = codes "k" ∷ codes "v" ∷ [];
@@ -123,6 +125,7 @@ abbrev one_site : StraightClass
 one_site = record {
   name = codes "S";
   fields = codes "t" ∷ [];
+  places = [];
   methods = record {
     name = codes "twice";
     parameters = codes "k" ∷ [];

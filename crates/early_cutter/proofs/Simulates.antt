@@ -2,6 +2,7 @@
 use Rattle.std.proofs.Common.{◌≡◌, refl, ℕ, ℤ, pos, ◌+◌, ◌-◌, List, [], ◌∷◌, length, replicate, Option, Some, None, slice_get, sym, ap, subst, ◌∙◌, arith, All}
 use Rattle.std.specs.List.{zip}
 use Rattle.std.proofs.lemmas.List.{length-map}
+use Rattle.sdg_base.specs.Limits.{turns_at_start}
 use Rattle.sdg_base.specs.declared.val.Val.{Val}
 use Rattle.sdg_base.specs.declared.val.Val.TheVariants as val
 use Rattle.sdg_base.specs.declared.call.Call.{Call}
@@ -20,7 +21,7 @@ use Rattle.state_classes.specs.States.{State, Nothing, OfTable}
 use Rattle.access_blocks.specs.Variables.{Variables, Tables}
 use Rattle.access_blocks.specs.Members.{fields, methods, variables_of}
 use Rattle.access_blocks.specs.Blocks.{Stop, run_from, run_block}
-use Rattle.access_blocks.specs.Source.{CallState, Fresh, At, Ended, begun, turns_at_start}
+use Rattle.access_blocks.specs.Source.{CallState, Fresh, At, Ended, begun}
 use Rattle.agreement.specs.Simulation.{entry_in, field_names, Begins, Continues, Fitting, Simulation}
 use Rattle.task_code.specs.declared.graph.Task.{Task}
 use Rattle.task_code.specs.Machine.{Setting, Runs, run, runs, start_method, run_task, run_in_method, first_vars, carried_vars}

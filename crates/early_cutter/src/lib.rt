@@ -61,6 +61,3 @@ pub fn graph_of(alloc: Global, class: &StraightClass) -> Result<Graph, AllocErro
         tasks,
     })
 }
-
-#[cfg(test)]
-mod tests;

@@ -2,6 +2,7 @@
 use Rattle.std.proofs.Common.{◌≡◌, ◌≢◌, ℕ, ◌<◌, ◌≤◌, refl, List, [], ◌∷◌, ◌++◌, map, length, get_or, take, drop, sym, ap, ◌∙◌, arith}
 use Rattle.std.proofs.Math.Seq.{drop-cons}
 use Rattle.std.proofs.lemmas.List.{take_all, drop_all, append-nil, take-append-drop, length-map, length-take}
+use Rattle.java_tree.specs.declared.token.Place.{Place}
 use Rattle.java_tree.specs.declared.tree.Member.{Member}
 use Rattle.java_tree.specs.declared.tree.Member.TheVariants as member
 use Rattle.early_forms.specs.declared.straight.StraightMethod.{StraightMethod}
@@ -49,9 +50,9 @@ others_none (f ∷ fs) [] others (m ∷ ms) ended refused same = cc
 others_none (f ∷ fs) (g ∷ gs) others ms ended refused same = others_none fs gs others ms ended refused (cc)
 
 pub members_none :
-    (name : List ℕ) (members : List Member) (fields : List (List ℕ)) → TablesAtHead members fields →
+    (name : List ℕ) (members : List Member) (places : List Place) (fields : List (List ℕ)) → TablesAtHead members fields →
     ((ns : List StraightMethod) → drop (length fields) members ≢ map method_member ns) →
-    (c : StraightClass) → class_of name members ≢ class_tree c
-members_none name members fields head refused c same =
+    (c : StraightClass) → class_of name members places ≢ class_tree c
+members_none name members places fields head refused c same =
     others_none fields c.fields (drop (length fields) members) c.methods head.ended refused
     (sym head.parted ∙ ap (λ tree. tree.members) same)

@@ -1,7 +1,9 @@
 -- A tree of the straight form has one set of parts.
-use Rattle.std.proofs.Common.{◌≡◌, ◌↔◌, refl, ℕ, Bool, false, IsTrue, List, [], ◌∷◌, ◌++◌, map, codes, sym, ap, subst, ◌∙◌}
+use Rattle.std.proofs.Common.{◌≡◌, ◌↔◌, refl, ℕ, Bool, false, IsTrue, List, [], ◌∷◌, ◌++◌, map, codes, reverse, sym, ap, subst, ◌∙◌}
+use Rattle.std.proofs.lemmas.List.{reverse-reverse}
+use Rattle.sdg_base.specs.declared.operator.BinOp.TheVariants as bin
 use Rattle.java_tree.specs.declared.tree.Expr.TheVariants as e
-use Rattle.java_tree.specs.declared.tree.Operation.{out-Operation}
+use Rattle.java_tree.specs.declared.token.Place.{Place}
 use Rattle.java_tree.specs.declared.tree.CallForm.{CallForm}
 use Rattle.java_tree.specs.declared.tree.Class.{Class}
 use Rattle.early_forms.specs.declared.straight.Atom.{Atom}
@@ -13,11 +15,11 @@ use Rattle.early_forms.specs.declared.straight.Ending.{Ending}
 use Rattle.early_forms.specs.declared.straight.Ending.TheVariants as ending
 use Rattle.early_forms.specs.declared.straight.StraightMethod.{StraightMethod}
 use Rattle.early_forms.specs.declared.straight.StraightClass.{StraightClass}
-use Rattle.early_forms.specs.Trees.{atom_tree, plus, chain, sum_tree, plain, access, got, put_statement, statement_tree, ending_tree, body_tree, result_of, long_parameter, method_tree, table_member, method_member, class_tree}
+use Rattle.early_forms.specs.Trees.{atom_tree, sum_tree, plain, access, got, put_statement, statement_tree, ending_tree, body_tree, result_of, long_parameter, method_tree, table_member, method_member, class_tree}
 use Rattle.early_forms.specs.Names.{IsProper}
 use Rattle.early_forms.specs.Forms.{IsStraightForm}
-use Rattle.early_forms.proofs.Chains.{chain_is, binary_no_atom}
-use Rattle.early_forms.proofs.Layers.{IsInjective, plain_injective, call_injective, local_injective}
+use Rattle.early_forms.proofs.Chains.{backwards, sum_backwards, binary_parts, binary_no_atom}
+use Rattle.early_forms.proofs.Layers.{IsInjective, plain_injective, called_injective, call_injective, local_injective}
 use Rattle.early_forms.proofs.BodyTrees.{return_no_statement}
 use Rattle.early_forms.proofs.Classes.{field_name}
 
@@ -38,31 +40,37 @@ atom_injective (Literal n) (Variable b) same = cc
 atom_injective (Variable a) (Literal m) same = cc
 atom_injective (Variable a) (Variable b) same = cc
 
-plus_injective : IsInjective plus
-plus_injective a b same = atom_injective a b (let h = ap (λ o. (out-Operation o).right) same in cc)
-
 same_sum : (a b : Atom) (xs ys : List Atom) → a ≡ b → xs ≡ ys → (let s : Sum = record { first = a; others = xs } in let t : Sum = record { first = b; others = ys } in s ≡ t)
 same_sum a b xs ys first others = cc
 
-chain_injective :
-    (a b : Atom) (xs ys : List Atom) → chain (atom_tree a) xs ≡ chain (atom_tree b) ys →
-    (let s : Sum = record { first = a; others = xs } in let t : Sum = record { first = b; others = ys } in s ≡ t)
-chain_injective a b [] [] same = same_sum a b [] [] (atom_injective a b same) refl
-chain_injective a b [] (y ∷ ys) same = absurd (binary_no_atom (atom_tree b) (map plus (y ∷ ys)) a (sym same))
-chain_injective a b (x ∷ xs) ys same =
-    let parts = chain_is (atom_tree a) (map plus (x ∷ xs)) b ys same in
-    same_sum a b (x ∷ xs) ys (atom_injective a b parts.first_is) (map_injective plus plus_injective (x ∷ xs) ys parts.others_are)
+backwards_injective : (a b : Atom) (xs ys : List Atom) → backwards a xs ≡ backwards b ys → (a ≡ b) × (xs ≡ ys)
+backwards_injective a b [] [] same = (atom_injective a b same, refl)
+backwards_injective a b [] (y ∷ ys) same = absurd (binary_no_atom bin.Add (backwards b ys) (atom_tree y) a (sym same))
+backwards_injective a b (x ∷ xs) [] same = absurd (binary_no_atom bin.Add (backwards a xs) (atom_tree x) b same)
+backwards_injective a b (x ∷ xs) (y ∷ ys) same =
+    let parts = binary_parts bin.Add bin.Add (backwards a xs) (backwards b ys) (atom_tree x) (atom_tree y) same in
+    let rest = backwards_injective a b xs ys parts.1 in
+    let others = rest.1 in
+    let here = atom_injective x y parts.2 in
+    (rest.0, cc)
+
+reverse_injective : {X : Type 0} → IsInjective (reverse {A = X})
+reverse_injective xs ys same = sym (reverse-reverse xs) ∙ ap reverse same ∙ reverse-reverse ys
 
 sum_injective : IsInjective sum_tree
-sum_injective s t same = chain_injective s.first t.first s.others t.others same
+sum_injective s t same =
+    let parts = backwards_injective s.first t.first (reverse s.others) (reverse t.others) (sym (sum_backwards s) ∙ same ∙ sum_backwards t) in
+    same_sum s.first t.first s.others t.others parts.0 (reverse_injective s.others t.others parts.1)
 
 plain_sum_injective : IsInjective (λ s. plain (sum_tree s))
 plain_sum_injective s t same = sum_injective s t (plain_injective (sum_tree s) (sum_tree t) same)
 
 got_injective : (f g : List ℕ) (s t : Sum) → got f s ≡ got g t → (f ≡ g) × (s ≡ t)
 got_injective f g s t same =
-    let forms = plain_injective (e.Call (access f (codes "get") (sum_tree s ∷ []))) (e.Call (access g (codes "get") (sum_tree t ∷ []))) same in
-    let parts = call_injective (codes "get") f g (plain (sum_tree s) ∷ []) (plain (sum_tree t) ∷ []) (cc) in
+    let one = access f (codes "get") (sum_tree s ∷ []) in
+    let other = access g (codes "get") (sum_tree t ∷ []) in
+    let forms = called_injective one other (plain_injective (e.Call one) (e.Call other) same) in
+    let parts = call_injective (codes "get") f g (plain (sum_tree s) ∷ []) (plain (sum_tree t) ∷ []) forms in
     let lists = parts.1 in
     (parts.0, plain_sum_injective s t (cc))
 
@@ -72,15 +80,15 @@ put_injective f g k l v w same =
     let lists = parts.1 in
     (parts.0, plain_sum_injective k l (cc), plain_sum_injective v w (cc))
 
-call_no_sum : (form : CallForm) (first : Atom) (others : List Atom) → e.Call form ≡ chain (atom_tree first) others → ⊥
+call_no_sum : (form : CallForm) (first : Atom) (atoms : List Atom) → e.Call form ≡ backwards first atoms → ⊥
 call_no_sum form (Literal n) [] same = cc
 call_no_sum form (Variable n) [] same = cc
 call_no_sum form first (x ∷ xs) same = cc
 
 get_no_sum : (f : List ℕ) (k v : Sum) → got f k ≡ plain (sum_tree v) → ⊥
 get_no_sum f k v same =
-    call_no_sum (access f (codes "get") (sum_tree k ∷ [])) v.first v.others
-    (plain_injective (e.Call (access f (codes "get") (sum_tree k ∷ []))) (sum_tree v) same)
+    call_no_sum (access f (codes "get") (sum_tree k ∷ [])) v.first (reverse v.others)
+    (plain_injective (e.Call (access f (codes "get") (sum_tree k ∷ []))) (sum_tree v) same ∙ sum_backwards v)
 
 statement_injective : IsInjective statement_tree
 statement_injective (Get l f k) (Get m g j) same =
@@ -174,14 +182,16 @@ members_injective (f ∷ fs) (g ∷ gs) ms ns same =
     (cc, rest.1)
 
 same_class :
-    (a b : List ℕ) (fs gs : List (List ℕ)) (ms ns : List StraightMethod) → a ≡ b → fs ≡ gs → ms ≡ ns →
-    (let c : StraightClass = record { name = a; fields = fs; methods = ms } in let d : StraightClass = record { name = b; fields = gs; methods = ns } in c ≡ d)
-same_class a b fs gs ms ns names fields methods = cc
+    (a b : List ℕ) (fs gs : List (List ℕ)) (ms ns : List StraightMethod) (ps qs : List Place) → a ≡ b → fs ≡ gs → ms ≡ ns → ps ≡ qs →
+    (let c : StraightClass = record { name = a; fields = fs; methods = ms; places = ps } in
+    let d : StraightClass = record { name = b; fields = gs; methods = ns; places = qs } in c ≡ d)
+same_class a b fs gs ms ns ps qs names fields methods places = cc
 
 pub class_injective : IsInjective class_tree
 class_injective c d same =
     let members = members_injective c.fields d.fields c.methods d.methods (ap (λ tree. tree.members) same) in
-    same_class c.name d.name c.fields d.fields c.methods d.methods (ap (λ tree. tree.name) same) members.0 members.1
+    same_class c.name d.name c.fields d.fields c.methods d.methods c.places d.places
+    (ap (λ tree. tree.name) same) members.0 members.1 (ap (λ tree. tree.places) same)
 
 -- a tree whose parts are not proper is not of the form
 pub improper :

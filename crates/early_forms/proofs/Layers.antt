@@ -3,6 +3,7 @@ use Rattle.std.proofs.Common.{◌≡◌, ◌≢◌, ℕ, List, [], ◌∷◌, Op
 use Rattle.java_tree.specs.declared.tree.Value.{Value, out-Value}
 use Rattle.java_tree.specs.declared.tree.CallForm.{CallForm, out-CallForm}
 use Rattle.java_tree.specs.declared.tree.CallForm.TheVariants as call
+use Rattle.java_tree.specs.declared.tree.Expr.{out-Expr}
 use Rattle.java_tree.specs.declared.tree.Expr.TheVariants as e
 use Rattle.java_tree.specs.declared.tree.BlockItem.{BlockItem}
 use Rattle.java_tree.specs.declared.tree.BlockItem.TheVariants as item
@@ -39,6 +40,24 @@ call_injective method f g a b same =
     let second = call.outs-Of g method b in
     (cc, cc)
 
+-- a call of a method of another name
+pub of_another :
+    (form : CallForm) (field name method : List ℕ) (arguments : List Value) → form ≡ call.Of field name arguments → name ≢ method →
+    (g : List ℕ) (b : List Value) → form ≢ call.Of g method b
+of_another form field name method arguments is other g b same =
+    let h = ap out-CallForm (sym is ∙ same) in
+    let first = call.outs-Of field name arguments in
+    let second = call.outs-Of g method b in
+    other (cc)
+
+-- a call as an expression
+pub called_injective : (a b : CallForm) → e.Call a ≡ e.Call b → a ≡ b
+called_injective a b same =
+    let h = ap out-Expr same in
+    let first = e.outs-Call a in
+    let second = e.outs-Call b in
+    cc
+
 -- no field and key of a `get`, where one of its layers has none
 pub got_none_call :
     (value : Value) → ((form : CallForm) → value ≢ plain (e.Call form)) → (p : List ℕ × Sum) → value ≢ got p.0 p.1
@@ -49,7 +68,7 @@ pub got_none_access :
     ((field : List ℕ) (arguments : List Value) → form ≢ call.Of field (codes "get") arguments) → (p : List ℕ × Sum) → value ≢ got p.0 p.1
 got_none_access value form outer refused p same =
     let other = call.Of p.0 (codes "get") (plain (sum_tree p.1) ∷ []) in
-    let forms : form ≡ other = (let h = plain_injective (e.Call form) (e.Call other) (sym outer ∙ same) in cc) in
+    let forms = called_injective form other (plain_injective (e.Call form) (e.Call other) (sym outer ∙ same)) in
     refused p.0 (plain (sum_tree p.1) ∷ []) forms
 
 pub got_none_key :
@@ -57,7 +76,7 @@ pub got_none_key :
     form ≡ call.Of field (codes "get") arguments → ((s : Sum) → arguments ≢ plain (sum_tree s) ∷ []) → (p : List ℕ × Sum) → value ≢ got p.0 p.1
 got_none_key value form field arguments outer inner refused p same =
     let other = call.Of p.0 (codes "get") (plain (sum_tree p.1) ∷ []) in
-    let forms : form ≡ other = (let h = plain_injective (e.Call form) (e.Call other) (sym outer ∙ same) in cc) in
+    let forms = called_injective form other (plain_injective (e.Call form) (e.Call other) (sym outer ∙ same)) in
     refused p.1 (call_injective (codes "get") field p.0 arguments (plain (sum_tree p.1) ∷ []) (sym inner ∙ forms)).1
 
 -- no field, key and value of a `put`, likewise

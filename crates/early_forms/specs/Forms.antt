@@ -1,4 +1,4 @@
--- The straight form, as a fact of a tree.
+-- The straight form, as a fact of a tree: it is the tree of such parts, with the places that it has.
 use Rattle.std.specs.Prelude.{◌≡◌}
 use Rattle.java_tree.specs.declared.tree.Class.{Class}
 use Rattle.early_forms.specs.declared.straight.StraightClass.{StraightClass}

@@ -1,5 +1,6 @@
 -- What a reader of trees finds.
 use Rattle.std.specs.Prelude.{◌≡◌, ◌≢◌, None, [], ◌∷◌, ◌++◌, ◌≤◌, List, length, drop, map, ℕ, Option, MatchOption}
+use Rattle.java_tree.specs.declared.token.Place.{Place}
 use Rattle.java_tree.specs.declared.tree.Class.{Class}
 use Rattle.java_tree.specs.declared.tree.Member.{Member}
 use Rattle.java_tree.specs.declared.tree.BlockItem.{BlockItem}
@@ -26,9 +27,9 @@ pub record TablesAtHead (members : List Member) (fields : List (List ℕ)) : Typ
   pub parted : members ≡ map table_member fields ++ drop (length fields) members
   pub ended : (name : List ℕ) (others : List Member) → drop (length fields) members ≢ table_member name ∷ others
 
--- a class of which the name and the members alone are written
-abbrev pub class_of : List ℕ → List Member → Class
-class_of name members = record { «package» = None; imports = []; modifiers = []; name = name; members = members }
+-- a class of which the name, the members and the places of its tokens alone are written
+abbrev pub class_of : List ℕ → List Member → List Place → Class
+class_of name members places = record { «package» = None; imports = []; modifiers = []; name = name; members = members; places = places }
 
-abbrev pub MembersOf : List ℕ → List Member → Option StraightClass → Type 0
-MembersOf name members = PartsOf class_tree (class_of name members)
+abbrev pub MembersOf : List ℕ → List Member → List Place → Option StraightClass → Type 0
+MembersOf name members places = PartsOf class_tree (class_of name members places)

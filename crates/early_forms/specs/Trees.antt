@@ -16,7 +16,6 @@ use Rattle.java_tree.specs.declared.tree.Stmt.TheVariants as stmt
 use Rattle.java_tree.specs.declared.tree.Simple.TheVariants as simple
 use Rattle.java_tree.specs.declared.tree.Expr.{Expr}
 use Rattle.java_tree.specs.declared.tree.Expr.TheVariants as e
-use Rattle.java_tree.specs.declared.tree.Operation.{Operation, roll-Operation}
 use Rattle.java_tree.specs.declared.tree.Value.{Value, roll-Value}
 use Rattle.java_tree.specs.declared.tree.CallForm.{CallForm}
 use Rattle.java_tree.specs.declared.tree.CallForm.TheVariants as call
@@ -34,14 +33,12 @@ abbrev pub atom_tree : Atom → Expr
 atom_tree (Literal n) = e.Number n true false
 atom_tree (Variable name) = e.Name name
 
-abbrev pub plus : Atom → Operation
-plus atom = roll-Operation (record { op = bin.Add; right = atom_tree atom })
+-- `+` associates to the left (JLS 15.18).
+abbrev pub chain : Expr → List Atom → Expr
+chain left [] = left
+chain left (atom ∷ atoms) = chain (e.Binary bin.Add left (atom_tree atom)) atoms
 
 -- a sum of one atom is the atom
-abbrev pub chain : Expr → List Atom → Expr
-chain first [] = first
-chain first (atom ∷ atoms) = e.Binary first (map plus (atom ∷ atoms))
-
 abbrev pub sum_tree : Sum → Expr
 sum_tree s = chain (atom_tree s.first) s.others
 
@@ -96,4 +93,4 @@ method_member m = member.Method (method_tree m)
 
 abbrev pub class_tree : StraightClass → Class
 class_tree c =
-    record { «package» = None; imports = []; modifiers = []; name = c.name; members = map table_member c.fields ++ map method_member c.methods }
+    record { «package» = None; imports = []; modifiers = []; name = c.name; members = map table_member c.fields ++ map method_member c.methods; places = c.places }

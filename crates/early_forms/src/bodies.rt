@@ -53,7 +53,7 @@ fn call_of(expr: &Expr) -> Option<&CallForm>
     ensures { PartsOf Expr.Call expr.now (option_copied result) }
 {
     match expr {
-        Expr::Call(call) => Some(call),
+        Expr::Call(call) => Some(call.get()),
         _ => None,
     }
 }
@@ -111,7 +111,10 @@ fn statement_call_of(item: &BlockItem) -> Option<&CallForm>
     ensures { PartsOf (λ call. BlockItem.Stmt (Stmt.Simple (Simple.Call false call))) item.now (option_copied result) }
 {
     match item {
-        BlockItem::Stmt(Stmt::Simple(Simple::Call(false, call))) => Some(call),
+        BlockItem::Stmt(Stmt::Simple(simple)) => match simple.get() {
+            Simple::Call(false, call) => Some(call),
+            _ => None,
+        },
         _ => None,
     }
 }
@@ -135,7 +138,7 @@ fn returned_of(item: &BlockItem) -> Option<&Value>
     ensures { PartsOf return_value item.now (option_copied result) }
 {
     match item {
-        BlockItem::Stmt(Stmt::Return(Some(value))) => Some(value),
+        BlockItem::Stmt(Stmt::Return(Some(value))) => Some(value.get()),
         _ => None,
     }
 }
@@ -144,10 +147,13 @@ fn local_of(item: &BlockItem) -> Option<(&Name, &Value)>
     ensures { MatchOption result ((name : List ℕ) (value : Value) → item.now ≢ long_local name value) (λ (name, value). item.now ≡ long_local name.now value.now) }
 {
     match item {
-        BlockItem::Local(local) => match (&local.type_name, &local.value) {
-            (TypeName::Long, Some(value)) if !local.is_partial => Some((&local.name, value)),
-            _ => None,
-        },
+        BlockItem::Local(local) => {
+            let local = local.get();
+            match (&local.type_name, &local.value) {
+                (TypeName::Long, Some(value)) if !local.is_partial => Some((&local.name, value)),
+                _ => None,
+            }
+        }
         _ => None,
     }
 }

@@ -20,8 +20,8 @@ use std::alloc::{AllocError, Global};
 pub use straight::{Atom, Ending, Statement, StraightClass, StraightMethod, Sum};
 
 /// The parts of a class of the straight form, or `None` where the class is not of the form: it has
-/// another production, or its names or literals are not proper. Nothing recurses over the length of
-/// a sum, of a body or of the class.
+/// another production, or its names or literals are not proper. Nothing recurses but over the levels
+/// of a sum.
 ///
 /// # Errors
 ///
@@ -39,6 +39,3 @@ pub fn straight_form(alloc: Global, class: &Class) -> Result<Option<StraightClas
         Ok(None)
     }
 }
-
-#[cfg(test)]
-mod tests;

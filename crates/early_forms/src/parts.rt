@@ -8,17 +8,24 @@ ghost use Rattle.early_forms.specs.Parts.{PartsOf, TablesAtHead, MembersOf};
 use crate::bodies::body_of;
 use crate::straight::{Ending, StraightClass, StraightMethod};
 use crate::sums::copy_name;
-use java_tree::{Class, FieldModifier, Member, Method, Param, ResultType, TypeName};
+use java_tree::{Class, FieldModifier, Member, Method, Param, Place, ResultType, TypeName};
 use sdg_base::Name;
 use sqlite_items::Items;
 use std::alloc::{AllocError, Global};
 
+fn is_long(type_name: &TypeName) -> bool
+    ensures { IsTrue result ↔ (type_name.now ≡ TypeName.Long) }
+{
+    matches!(type_name, TypeName::Long)
+}
+
 fn parameter_of(parameter: &Param) -> Option<&Name>
     ensures { PartsOf long_parameter parameter.now (option_copied result) }
 {
-    match parameter.type_name {
-        TypeName::Long if !parameter.is_collection && !parameter.is_array => Some(&parameter.name),
-        _ => None,
+    if is_long(&parameter.type_name) && !parameter.is_collection && !parameter.is_array {
+        Some(&parameter.name)
+    } else {
+        None
     }
 }
 
@@ -145,8 +152,9 @@ fn members_of(
     alloc: Global,
     name: &Name,
     members: &[Member],
+    places: &[Place],
 ) -> Result<Option<StraightClass>, AllocError>
-    ensures { IfOk result (MembersOf name.now members.now) }
+    ensures { IfOk result (MembersOf name.now members.now places.now) }
 {
     let fields = tables_of(alloc, members)?;
     let (_, others) = members.split_at(fields.len());
@@ -154,10 +162,12 @@ fn members_of(
         return Ok(None);
     };
     let name = copy_name(alloc, name)?;
+    let places = Items::from_slice(alloc, places)?;
     Ok(Some(StraightClass {
         name,
         fields,
         methods,
+        places,
     }))
 }
 
@@ -173,5 +183,10 @@ pub fn parts_of(alloc: Global, class: &Class) -> Result<Option<StraightClass>, A
     if class.package.is_some() || !class.imports.is_empty() || !class.modifiers.is_empty() {
         return Ok(None);
     }
-    members_of(alloc, &class.name, class.members.as_slice())
+    members_of(
+        alloc,
+        &class.name,
+        class.members.as_slice(),
+        class.places.as_slice(),
+    )
 }

@@ -1,5 +1,6 @@
 //! The straight form of class, as its parts.
 
+use java_tree::Place;
 use sdg_base::Name;
 use sqlite_items::Items;
 
@@ -47,10 +48,12 @@ pub struct StraightMethod {
     pub ending: Ending,
 }
 
-/// A class with partitioned fields of type `Table`, which stand before its methods.
+/// A class with partitioned fields of type `Table`, which stand before its methods, and where each
+/// of its tokens begins.
 #[derive(Debug, Drop)]
 pub struct StraightClass {
     pub name: Name,
     pub fields: Items<Name>,
     pub methods: Items<StraightMethod>,
+    pub places: Items<Place>,
 }

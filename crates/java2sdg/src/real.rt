@@ -1,9 +1,11 @@
-//! Real files and standard output. They tell no content: what the system keeps, no clause can say.
+//! Real files and standard output. They tell no content: what the system keeps, no clause can say. The
+//! files tell which reads were made.
 
-ghost use Rattle.std.specs.Prelude.{◌≡◌, ◌≤◌, None, IfOk, length};
+ghost use Rattle.std.specs.Prelude.{◌≡◌, ◌≤◌, [], None, Some, IfOk, length};
 
 use sdg_base::KeepError;
-use sdg_keep::{Files, Sink};
+use sdg_keep::{Files, ReadCall, Sink, note_read};
+use sqlite_items::Items;
 use std::alloc::Global;
 use std::fs::File;
 use std::io::{Read, Seek, SeekFrom, Write};
@@ -24,24 +26,28 @@ pub struct RealFiles<'a> {
     alloc: Global,
     opened: Option<Opened>,
     faults: u64,
+    /// The reads so far. A read fills its buffer unless the file ends, so there are few of them,
+    /// however little a pipe gives at a time.
+    reads: Items<ReadCall>,
 }
 
 impl<'a> RealFiles<'a> {
-    /// No file is open yet, and no read has failed.
+    /// No file is open yet, and there was no read.
     pub fn new(rt: &'a HostRuntime, alloc: Global) -> RealFiles<'a>
-        ensures { result.faults ≡ 0 }
+        ensures { (result.faults ≡ 0) × (result.reads ≡ []) }
     {
         RealFiles {
             rt,
             alloc,
             opened: None,
             faults: 0,
+            reads: Items::new(alloc),
         }
     }
 
     /// The file of this name at this byte: the one that is open where it stands there, or anew.
     fn opened_at(&mut self, name: &String, from: u64) -> io::Result<Opened>
-        ensures { self.new.faults ≡ self.old.faults }
+        ensures { (self.new.faults ≡ self.old.faults) × (self.new.reads ≡ self.old.reads) }
     {
         if let Some(opened) = self.opened.take() {
             if opened.at == from && opened.name == *name {
@@ -59,13 +65,14 @@ impl<'a> RealFiles<'a> {
         })
     }
 
-    /// Reads, and keeps the file open.
+    /// Reads until the buffer is full or the file ends, and keeps the file open.
     fn read_at(&mut self, name: &String, from: u64, into: &mut [u8]) -> io::Result<usize>
         ensures faults { self.new.faults ≡ self.old.faults }
+        ensures reads { self.new.reads ≡ self.old.reads }
         ensures count { IfOk result (λ n. n ≤ length into.new) }
     {
         let mut opened = self.opened_at(name, from)?;
-        let count = opened.file.read(into)?;
+        let count = fill(&mut opened.file, into)?;
         opened.at = from.saturating_add(count as u64);
         self.opened = Some(opened);
         Ok(count)
@@ -77,18 +84,40 @@ impl Files for RealFiles<'_> {
 
     ghost content = { λ _ _. None };
 
-    ghost last_failed = { λ _. None };
+    ghost reads = { λ s. Some s.reads };
 
     fn read(&mut self, name: &String, from: u64, into: &mut [u8]) -> Result<usize, KeepError> {
-        match self.read_at(name, from, into) {
-            Ok(count) => Ok(count),
-            Err(error) if is_memory(&error) => Err(KeepError::Memory),
-            Err(_) => {
+        let gave = match self.read_at(name, from, into) {
+            Ok(count) => Some(count),
+            Err(error) if is_memory(&error) => return Err(KeepError::Memory),
+            Err(_) => None,
+        };
+        if note_read(self.alloc, &mut self.reads, name, from, into.len(), gave).is_err() {
+            return Err(KeepError::Memory);
+        }
+        match gave {
+            Some(count) => Ok(count),
+            None => {
                 self.faults = self.faults.saturating_add(1);
                 Err(KeepError::Failed)
             }
         }
     }
+}
+
+/// Reads until the buffer is full or the file ends, and answers how many bytes were read.
+fn fill(file: &mut File, into: &mut [u8]) -> io::Result<usize>
+    ensures { IfOk result (λ n. n ≤ length into.new) }
+{
+    let mut done = 0;
+    while done < into.len() {
+        let count = file.read(into.split_at_mut(done).1)?;
+        if count == 0 {
+            break;
+        }
+        done += count;
+    }
+    Ok(done)
 }
 
 /// Standard output.

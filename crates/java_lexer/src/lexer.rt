@@ -14,17 +14,22 @@ use crate::place::place_past;
 use java_tree::{Place, Token, Tokens};
 use sqlite_items::Items;
 use std::alloc::{AllocError, Global};
+use thiserror::Error;
 
 /// Why no tokens were answered. Each place is that of the first byte at which nothing begins.
-#[derive(Clone, Copy, Debug, PartialEq, Eq)]
+#[derive(Debug, Drop, Error)]
 pub enum LexError {
     /// The byte begins no token, no comment and no white space.
+    #[error("line {}, column {}: this byte begins no token", .0.line, .0.column)]
     BadByte(Place),
     /// The letters, digits and `_` from this digit on are no integer literal (JLS 3.10.1).
+    #[error("line {}, column {}: this is no integer literal", .0.line, .0.column)]
     BadNumber(Place),
     /// The `/*` has no `*/` behind it (JLS 3.7).
+    #[error("line {}, column {}: this comment does not end", .0.line, .0.column)]
     OpenComment(Place),
     /// There was no memory for the tokens.
+    #[error("there was no memory for the tokens")]
     Memory,
 }
 

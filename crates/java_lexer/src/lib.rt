@@ -10,6 +10,3 @@ mod space;
 mod table;
 
 pub use lexer::{LexError, lex, one_answer};
-
-#[cfg(test)]
-mod tests;

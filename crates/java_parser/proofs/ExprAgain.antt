@@ -1,6 +1,6 @@
 -- The tokens of an expression that is well placed and on no more than the levels are read as it, where it ends behind them.
 use Rattle.std.proofs.Common.{◌≡◌, ℕ, zero, suc, ◌+◌, ◌-◌, ◌<◌, ◌≤◌, max, Bool, true, false, not, ◌&&◌, nat_eq, nat_lt, List, [], ◌∷◌, ◌++◌, length, map, codes, Some, Result, Ok, Err, ◌⊎◌, inl, inr, refl, sym, ap, subst, ◌∙◌, append_assoc, arith}
-use Rattle.std.proofs.lemmas.List.{append-nil}
+use Rattle.std.proofs.lemmas.List.{length-append}
 use Rattle.std.proofs.lemmas.Bool.Decides.{Decides-ltb, Decides-eqb, nat_tests}
 use Rattle.std.specs.List.{flat_map}
 use Rattle.sdg_base.specs.declared.operator.BinOp.{BinOp}
@@ -11,7 +11,6 @@ use Rattle.sdg_base.specs.declared.val.Num.TheVariants as num
 use Rattle.java_tree.specs.declared.token.Kind.TheVariants as k
 use Rattle.java_tree.specs.declared.tree.Expr.{Expr, out-Expr, roll-Expr, roll-out-Expr}
 use Rattle.java_tree.specs.declared.tree.Expr.TheVariants as expr
-use Rattle.java_tree.specs.declared.tree.Operation.{Operation}
 use Rattle.java_tree.specs.declared.tree.Value.{Value, out-Value}
 use Rattle.java_tree.specs.declared.tree.CallForm.{CallForm, out-CallForm, roll-CallForm, roll-out-CallForm}
 use Rattle.java_tree.specs.declared.tree.CallForm.TheVariants as call
@@ -19,22 +18,22 @@ use Rattle.java_tree.specs.declared.tree.CallForm.TheOpen.{CallForm-F, Expr-F}
 use Rattle.java_tree.specs.declared.tree.CallForm.TheOpen as layer
 use Rattle.java_tree.specs.Levels.{operator_level}
 use Rattle.java_tree.specs.Tokens.{Kinds, global, separated, operator_symbol, expr_tokens, value_tokens, call_tokens}
-use Rattle.java_tree.specs.Placed.{standing_of, is_row}
+use Rattle.java_tree.specs.Placed.{Standing, standing_of}
 use Rattle.java_tree.specs.Heights.{expr_height, call_height}
 use Rattle.java_parser.specs.declared.operands.Opening.{Opening}
 use Rattle.java_parser.specs.declared.operands.Opening.TheVariants as opening
 use Rattle.java_parser.specs.Words.{◌>>=◌, Fault, Reading, same_word, begins}
 use Rattle.java_parser.specs.Members.{dot, at_sign, comma, open_paren, close_paren, open_bracket, close_bracket}
-use Rattle.java_parser.specs.Expressions.{question, colon, operator_ahead, operator_at, number_type_ahead, opening_of, is_other, begins_expr, follows, tail, row, operation, valued, all_rows, value_in, other_value_in, other_values_in, values_in, args_in, of_in, own_in, member_in, of_member_in, index_in, named_in, called_in, cast_in, inner_in, paren_in, new_in, prefixed_in, operand_by, operand_in, row_from, row_in, conditional_in, looser_in, extended_in, read_in, read_at}
+use Rattle.java_parser.specs.Expressions.{question, colon, operator_ahead, operator_at, number_type_ahead, opening_of, is_other, begins_expr, follows, tail, valued, all_rows, value_in, other_value_in, other_values_in, values_in, args_in, of_in, own_in, member_in, of_member_in, index_in, named_in, called_in, cast_in, inner_in, paren_in, new_in, prefixed_in, operand_by, operand_in, row_from, row_in, conditional_in, looser_in, extended_in, read_in, read_at}
 use Rattle.java_parser.proofs.Laws.{bind_ok, then_is, Begins, after_again, begins_same, name_again, all_again, separated-map}
 use Rattle.java_parser.proofs.Around.{optional_again}
-use Rattle.java_parser.proofs.TreeHeights.{conditional_height, unary_height, cast_height, number_height, truth_height, paren_height, maker_height, name_height, index_height, member_height, called_height, own_height, of_height, of_member_height, row_more_height}
+use Rattle.java_parser.proofs.TreeHeights.{conditional_height, unary_height, cast_height, number_height, truth_height, paren_height, maker_height, name_height, index_height, member_height, called_height, own_height, of_height, of_member_height, binary_height}
 use Rattle.java_parser.proofs.ExprTakes.{no_levels, not_below}
-use Rattle.java_parser.proofs.TreeTokens.{operation_tokens, args_tokens, conditional_tokens, binary_tokens, unary_tokens, cast_tokens, number_tokens, true_tokens, false_tokens, paren_tokens, maker_tokens, name_tokens, index_tokens, member_tokens, called_tokens, own_tokens, of_tokens, of_member_tokens, valued_tokens}
-use Rattle.java_parser.proofs.TreeStandings.{operation_standing_of, conditional_standing, binary_standing, unary_standing, cast_standing, number_standing, truth_standing, paren_standing, maker_standing, name_standing, index_standing, member_standing, called_standing}
+use Rattle.java_parser.proofs.TreeTokens.{args_tokens, conditional_tokens, binary_tokens, unary_tokens, cast_tokens, number_tokens, true_tokens, false_tokens, paren_tokens, maker_tokens, name_tokens, index_tokens, member_tokens, called_tokens, own_tokens, of_tokens, of_member_tokens, valued_tokens}
+use Rattle.java_parser.proofs.TreeStandings.{conditional_standing, binary_standing, unary_standing, cast_standing, number_standing, truth_standing, paren_standing, maker_standing, name_standing, index_standing, member_standing, called_standing}
 use Rattle.java_parser.proofs.Sound.{Sound, SoundValue, SoundValues, SoundCall}
-use Rattle.java_parser.proofs.Follows.{Ends, ends, not_empty, tighter, no_operator_at, operator_found, op_of, right_of, operation_is, tokens_of_operation, standing_of_operation, level_within, in_row, row_follows, row_length, not_opened, no_type}
-use Rattle.java_parser.proofs.Splits.{in_paren, in_maker, in_index, in_unary, in_cast, in_called, in_conditional, in_own, in_of, in_of_member, expr_of, value_is, in_value, in_values, in_row_of, no_row, row_grows, row_within}
+use Rattle.java_parser.proofs.Follows.{Ends, ends, not_empty, tighter, no_operator_at, operator_found, operator_follows, level_within, not_opened, no_type}
+use Rattle.java_parser.proofs.Splits.{in_paren, in_maker, in_index, in_unary, in_cast, in_called, in_conditional, in_own, in_of, in_of_member, expr_of, value_is, in_value, in_values, in_binary}
 
 -- ---- words behind an expression
 
@@ -90,13 +89,34 @@ not_above a b le = grind (arith, nat_tests)
 no_conditional : (test first second : Expr) → 11 ≤ (standing_of (expr.Conditional test first second)).tightness → ⊥
 no_conditional test first second h = let s = ap (λ x. x.tightness) (conditional_standing test first second) in omega arith
 
-no_binary : (first : Expr) (operations : List Operation) → (standing_of (expr.Binary first operations)).is_placed ≡ true → 11 ≤ (standing_of (expr.Binary first operations)).tightness → ⊥
-no_binary first [] placed h = no_row first placed
-no_binary first (o ∷ more) placed h =
-    let s = ap (λ x. x.tightness) (binary_standing first (o ∷ more)) in
-    let own = ap (λ x. x.tightness) (standing_of_operation o) in
-    let w = level_within (op_of o) in
-    omega (arith, w.1)
+no_binary : (op : BinOp) (left right : Expr) → 11 ≤ (standing_of (expr.Binary op left right)).tightness → ⊥
+no_binary op left right h = let s = ap (λ x. x.tightness) (binary_standing op left right) in let w = level_within op in omega (arith, w.1)
+
+-- what an expression is, by how tightly it holds
+pub data Top (x : Expr) : Type 0 where
+  Tests : (test first second : Expr) → x ≡ expr.Conditional test first second → Top x
+  Operates : (op : BinOp) (left right : Expr) → x ≡ expr.Binary op left right → Top x
+  Holds : 11 ≤ (standing_of x).tightness → Top x
+
+holds_by : (x : Expr) (s : Standing) → standing_of x ≡ s → 11 ≤ s.tightness → Top x
+holds_by x s e h = Holds (rw e h)
+
+top_layer : (l : Expr-F CallForm Expr Value) → Top (roll-Expr l)
+top_layer (layer.Conditional test first second) = Tests test first second (expr.rolls-Conditional test first second)
+top_layer (layer.Binary op left right) = Operates op left right (expr.rolls-Binary op left right)
+top_layer (layer.Unary op x) = subst Top (sym (expr.rolls-Unary op x)) (holds_by _ _ (unary_standing op x) (omega arith))
+top_layer (layer.Cast to x) = subst Top (sym (expr.rolls-Cast to x)) (holds_by _ _ (cast_standing to x) (omega arith))
+top_layer (layer.Number digits decimal long) = subst Top (sym (expr.rolls-Number digits decimal long)) (holds_by _ _ (number_standing digits decimal long) (omega arith))
+top_layer (layer.Bool value) = subst Top (sym (expr.rolls-Bool value)) (holds_by _ _ (truth_standing value) (omega arith))
+top_layer (layer.Paren x) = subst Top (sym (expr.rolls-Paren x)) (holds_by _ _ (paren_standing x) (omega arith))
+top_layer (layer.New name x) = subst Top (sym (expr.rolls-New name x)) (holds_by _ _ (maker_standing name x) (omega arith))
+top_layer (layer.Name name) = subst Top (sym (expr.rolls-Name name)) (holds_by _ _ (name_standing name) (omega arith))
+top_layer (layer.Index name x) = subst Top (sym (expr.rolls-Index name x)) (holds_by _ _ (index_standing name x) (omega arith))
+top_layer (layer.Member object name) = subst Top (sym (expr.rolls-Member object name)) (holds_by _ _ (member_standing object name) (omega arith))
+top_layer (layer.Call c) = subst Top (sym (expr.rolls-Call c)) (holds_by _ _ (called_standing c) (omega arith))
+
+top_of : (x : Expr) → Top x
+top_of x = subst Top (roll-out-Expr x) (top_layer (out-Expr x))
 
 -- what is read again on one level deeper, and what that begins with
 pub record Deeper (n : ℕ) (deeper : ℕ → Kinds → Reading Expr) : Type 0 where
@@ -238,7 +258,7 @@ module _ (n : ℕ) (deeper : ℕ → Kinds → Reading Expr) (d : Deeper n deepe
   unfolding called_in
   behind_name name rest y h = then_is _ _ (name, rest) _ (name_again name rest) h
 
-  call_layer_again : (l : CallForm-F CallForm Expr Operation Value) (rest : Kinds) → SoundCall (suc n) (roll-CallForm l) → called_in deeper (call_tokens (roll-CallForm l) ++ rest) ≡ Ok (expr.Call (roll-CallForm l), rest)
+  call_layer_again : (l : CallForm-F CallForm Expr Value) (rest : Kinds) → SoundCall (suc n) (roll-CallForm l) → called_in deeper (call_tokens (roll-CallForm l) ++ rest) ≡ Ok (expr.Call (roll-CallForm l), rest)
   call_layer_again (layer.Own name args) rest i =
       let P : CallForm → Type 0 = λ c. SoundCall (suc n) c → called_in deeper (call_tokens c ++ rest) ≡ Ok (expr.Call c, rest) in
       subst P (sym (call.rolls-Own name args)) (λ j. rw (own_tokens name args) (behind_name name (args_tokens args ++ rest) _ (own_again name args rest (in_own n name args j)))) i
@@ -309,7 +329,7 @@ module _ (n : ℕ) (deeper : ℕ → Kinds → Reading Expr) (d : Deeper n deepe
   named_operand name rest = refl
 
   -- a call begins with a name
-  call_layer_operand : (l : CallForm-F CallForm Expr Operation Value) (rest : Kinds) → operand_in deeper (call_tokens (roll-CallForm l) ++ rest) ≡ called_in deeper (call_tokens (roll-CallForm l) ++ rest)
+  call_layer_operand : (l : CallForm-F CallForm Expr Value) (rest : Kinds) → operand_in deeper (call_tokens (roll-CallForm l) ++ rest) ≡ called_in deeper (call_tokens (roll-CallForm l) ++ rest)
   call_layer_operand (layer.Own name args) rest =
       let P : CallForm → Type 0 = λ c. operand_in deeper (call_tokens c ++ rest) ≡ called_in deeper (call_tokens c ++ rest) in
       subst P (sym (call.rolls-Own name args)) (rw (own_tokens name args) (named_operand name (args_tokens args ++ rest)))
@@ -330,9 +350,9 @@ module _ (n : ℕ) (deeper : ℕ → Kinds → Reading Expr) (d : Deeper n deepe
   abbrev AsOperand : Kinds → Expr → Type 0
   AsOperand rest y = Sound (suc n) 0 y → operand_in deeper (expr_tokens y ++ rest) ≡ Ok (y, rest)
 
-  operand_layer_again : (l : Expr-F CallForm Expr Operation Value) (rest : Kinds) → follows 11 rest ≡ true → AsOperand rest (roll-Expr l)
+  operand_layer_again : (l : Expr-F CallForm Expr Value) (rest : Kinds) → follows 11 rest ≡ true → AsOperand rest (roll-Expr l)
   operand_layer_again (layer.Conditional test first second) rest f = subst (AsOperand rest) (sym (expr.rolls-Conditional test first second)) (λ i. absurd (no_conditional test first second (let t = i.tight in omega arith)))
-  operand_layer_again (layer.Binary first operations) rest f = subst (AsOperand rest) (sym (expr.rolls-Binary first operations)) (λ i. absurd (no_binary first operations i.placed (let t = i.tight in omega arith)))
+  operand_layer_again (layer.Binary op left right) rest f = subst (AsOperand rest) (sym (expr.rolls-Binary op left right)) (λ i. absurd (no_binary op left right (let t = i.tight in omega arith)))
   operand_layer_again (layer.Unary op x) rest f = subst (AsOperand rest) (sym (expr.rolls-Unary op x)) (λ i. unary_again op x rest (in_unary n 0 op x i) f)
   operand_layer_again (layer.Cast to x) rest f = subst (AsOperand rest) (sym (expr.rolls-Cast to x)) (λ i. cast_again to x rest (in_cast n 0 to x i) f)
   operand_layer_again (layer.Number digits decimal long) rest f = subst (AsOperand rest) (sym (expr.rolls-Number digits decimal long)) (λ i. number_again digits decimal long rest)
@@ -356,57 +376,36 @@ module _ (n : ℕ) (deeper : ℕ → Kinds → Reading Expr) (d : Deeper n deepe
 
   -- ---- rows and conditionals
 
-  row_step_again : (looseness turns : ℕ) (first : Expr) (found : List Operation) (op : BinOp) (right : Expr) (more : List Operation) (behind rest : Kinds) → operator_level op ≡ 10 - looseness
-      → nat_lt n (expr_height (row first found)) ≡ false → deeper looseness (expr_tokens right ++ behind) ≡ Ok (right, behind)
-      → row_from deeper n looseness turns first (found ++ operation op right ∷ []) behind ≡ Ok (row first (found ++ more), rest)
-      → row_from deeper n looseness (suc turns) first found (k.Symbol (operator_symbol op) ∷ (expr_tokens right ++ behind)) ≡ Ok (row first (found ++ more), rest)
-  unfolding row_from tail
-  row_step_again looseness turns first found op right more behind rest level low here later =
-      let P : ℕ → Type 0 = λ l. operator_at l (k.Symbol (operator_symbol op) ∷ (expr_tokens right ++ behind)) ≡ Some op in
-      rw (subst P level (operator_found op (expr_tokens right ++ behind)), low) (then_is _ _ (right, behind) _ here later)
-
-  row_from_again : (looseness turns : ℕ) (first : Expr) (found more : List Operation) (rest : Kinds) → looseness ≤ 10 → is_row (10 - looseness) (map operation_standing_of more) ≡ true
-      → expr_height (row first (found ++ more)) ≤ suc n → follows (10 - looseness) rest ≡ true → length more < turns
-      → row_from deeper n looseness turns first found (flat_map operation_tokens more ++ rest) ≡ Ok (row first (found ++ more), rest)
+  row_ends : (looseness turns : ℕ) (x : Expr) (rest : Kinds) → 0 < turns → follows (10 - looseness) rest ≡ true → row_from deeper n looseness turns x rest ≡ Ok (x, rest)
   unfolding row_from operator_at
-  row_from_again looseness zero first found more rest le r h f lt = absurd (omega arith)
-  row_from_again looseness (suc turns) first found [] rest le r h f lt =
-      rw (no_operator_at (10 - looseness) (operator_ahead rest) (ends (10 - looseness) rest f).no_operator) (ap (λ (xs : List Operation). Ok (row first xs, rest)) (sym (append-nil found)))
-  row_from_again looseness (suc turns) first found (o ∷ more) rest le r h f lt =
-      let i = in_row (10 - looseness) o more r in
-      let w = row_within n first found o more h in
-      let behind = flat_map operation_tokens more ++ rest in
-      let grouped : (found ++ operation (op_of o) (right_of o) ∷ []) ++ more ≡ found ++ o ∷ more =
-      ap (λ (x : Operation). (found ++ x ∷ []) ++ more) (operation_is o) ∙ append_assoc found (o ∷ []) more in
-      let high : expr_height (row first ((found ++ operation (op_of o) (right_of o) ∷ []) ++ more)) ≤ suc n = omega (arith, h, ap (λ (xs : List Operation). expr_height (row first xs)) grouped) in
-      let tight : 11 ≤ looseness + (standing_of (right_of o)).tightness = omega (arith, i.tight) in
-      let Q : ℕ → Type 0 = λ l. follows l behind ≡ true in
-      let level : suc (10 - looseness) ≡ 11 - looseness = omega arith in
-      let ends_right : follows (11 - looseness) behind ≡ true = subst Q level (row_follows (10 - looseness) more rest i.others f) in
-      let right = d.again looseness (right_of o) behind (omega arith) (record { placed = i.placed; tight = tight; height = w.1 }) ends_right in
-      let low : nat_lt n (expr_height (row first found)) ≡ false = not_above n (expr_height (row first found)) w.0 in
-      rw (tokens_of_operation o, append_assoc (expr_tokens (right_of o)) (flat_map operation_tokens more) rest)
-      (row_step_again looseness turns first found (op_of o) (right_of o) (o ∷ more) behind rest i.level_is low right
-      (row_from_again looseness turns first (found ++ operation (op_of o) (right_of o) ∷ []) more rest le i.others high f (omega arith)
-      ∙ ap (λ (xs : List Operation). Ok (row first xs, rest)) grouped))
+  row_ends looseness zero x rest some f = absurd (omega arith)
+  row_ends looseness (suc turns) x rest some f = rw (no_operator_at (10 - looseness) (operator_ahead rest) (ends (10 - looseness) rest f).no_operator) refl
+
+  -- one turn, where the operand behind the operator is read
+  row_turn : (looseness turns : ℕ) (left : Expr) (op : BinOp) (right : Expr) (behind : Kinds) → operator_level op ≡ 10 - looseness → expr_height left ≤ n → deeper looseness (expr_tokens right ++ behind) ≡ Ok (right, behind)
+      → row_from deeper n looseness (suc turns) left (k.Symbol (operator_symbol op) ∷ (expr_tokens right ++ behind)) ≡ row_from deeper n looseness turns (expr.Binary op left right) behind
+  unfolding row_from tail
+  row_turn looseness turns left op right behind level low here =
+      let P : ℕ → Type 0 = λ l. operator_at l (k.Symbol (operator_symbol op) ∷ (expr_tokens right ++ behind)) ≡ Some op in
+      rw (subst P level (operator_found op (expr_tokens right ++ behind)), not_above n (expr_height left) low) (then_is _ _ (right, behind) _ here refl)
 
   no_conditional_in : (x : Expr) (rest : Kinds) → begins question rest ≡ false → conditional_in deeper n x rest ≡ Ok (x, rest)
   unfolding conditional_in
   no_conditional_in x rest h = rw h refl
 
-  row_nothing : (looseness : ℕ) (x : Expr) (rest : Kinds) → looseness ≤ 10 → expr_height x ≤ suc n → follows (10 - looseness) rest ≡ true → row_in deeper n looseness x rest ≡ Ok (x, rest)
+  row_nothing : (looseness : ℕ) (x : Expr) (rest : Kinds) → follows (10 - looseness) rest ≡ true → row_in deeper n looseness x rest ≡ Ok (x, rest)
   unfolding row_in
-  row_nothing looseness x rest le h f = row_from_again looseness (length rest) x [] [] rest le refl h f (not_empty (10 - looseness) rest f)
+  row_nothing looseness x rest f = row_ends looseness (length rest) x rest (not_empty (10 - looseness) rest f) f
 
-  looser_nothing : (looseness : ℕ) (x : Expr) (rest : Kinds) → looseness ≤ 10 → expr_height x ≤ suc n → follows (10 - looseness) rest ≡ true → looser_in deeper n looseness x rest ≡ Ok (x, rest)
+  looser_nothing : (looseness : ℕ) (x : Expr) (rest : Kinds) → looseness ≤ 10 → follows (10 - looseness) rest ≡ true → looser_in deeper n looseness x rest ≡ Ok (x, rest)
   unfolding looser_in
-  looser_nothing looseness x rest le h f =
+  looser_nothing looseness x rest le f =
       elim (same_or_not (nat_eq looseness 10)) [
         | inl here ↦
             let ten : looseness ≡ 10 = (Decides-eqb looseness 10).0 here in
             let q = (ends (10 - looseness) rest f).no_question in
             rw here (no_conditional_in x rest (no_question_at (10 - looseness) (begins question rest) (omega arith) q))
-        | inr other ↦ rw other (row_nothing looseness x rest le h f)
+        | inr other ↦ rw other (row_nothing looseness x rest f)
       ]
 
   read_step : (looseness : ℕ) (ks : Kinds) → read_in deeper n (suc looseness) ks ≡ (read_in deeper n looseness ks >>= λ y. looser_in deeper n looseness y.0 y.1)
@@ -437,56 +436,101 @@ module _ (n : ℕ) (deeper : ℕ → Kinds → Reading Expr) (d : Deeper n deepe
       (then_is _ _ (expr_tokens second ++ rest) _ (after_again (colon ∷ []) (expr_tokens second ++ rest) refl)
       (then_is _ _ (second, rest) _ (whole second rest p.3 f) refl))))))
 
-  row_read : (looseness : ℕ) → IsRead looseness → looseness ≤ 10 → (first : Expr) (o : Operation) (more : List Operation) (rest : Kinds) → Sound (suc n) (suc looseness) (expr.Binary first (o ∷ more))
-      → looseness + (standing_of (expr.Binary first (o ∷ more))).tightness ≡ 10 → follows (10 - looseness) rest ≡ true
-      → read_in deeper n (suc looseness) (expr_tokens (expr.Binary first (o ∷ more)) ++ rest) ≡ Ok (expr.Binary first (o ∷ more), rest)
+  -- Reading an expression that holds at a level at least, with what stands behind it, goes on from it with the operators of the level.
+  record RowGoesOn (looseness : ℕ) (x : Expr) (rest : Kinds) : Type 0 where
+    turns : ℕ
+    enough : length rest ≤ turns
+    same : read_in deeper n (suc looseness) (expr_tokens x ++ rest) ≡ row_from deeper n looseness turns x rest
+
+  looser_is_row : (looseness : ℕ) (x : Expr) (rest : Kinds) → looseness < 10 → looser_in deeper n looseness x rest ≡ row_from deeper n looseness (length rest) x rest
   unfolding looser_in row_in
-  row_read looseness before le first o more rest i tight f =
-      let level : (standing_of (expr.Binary first (o ∷ more))).tightness ≡ 10 - looseness = omega arith in
-      let p = in_row_of (10 - looseness) first o more i.placed level in
-      let behind = flat_map operation_tokens (o ∷ more) ++ rest in
-      let h = i.height in
-      let grows : expr_height first ≤ expr_height (expr.Binary first (o ∷ more)) = row_grows first [] (o ∷ more) in
-      let sound : Sound (suc n) looseness first = record { placed = p.0; tight = omega (arith, p.1); height = omega arith } in
-      let Q : ℕ → Type 0 = λ l. follows l behind ≡ true in
-      let next : suc (10 - looseness) ≡ 11 - looseness = omega arith in
-      let ends_first : follows (11 - looseness) behind ≡ true = subst Q next (row_follows (10 - looseness) (o ∷ more) rest p.2 f) in
-      let not_ten : nat_eq looseness 10 ≡ false = differs looseness (omega (arith, p.3)) in
-      let turns : length (o ∷ more) < length behind = omega (arith, row_length (o ∷ more) rest, not_empty (10 - looseness) rest f) in
-      rw (binary_tokens first (o ∷ more), append_assoc (expr_tokens first) (flat_map operation_tokens (o ∷ more)) rest)
-      (read_step looseness (expr_tokens first ++ behind)
-      ∙ then_is _ _ (first, behind) _ (before first behind sound ends_first) (rw not_ten (row_from_again looseness (length behind) first [] (o ∷ more) rest le p.2 h f turns)))
+  looser_is_row looseness x rest lt = rw (differs looseness lt) refl
 
-  -- an expression that holds exactly at the next level
-  abbrev AtLevel : ℕ → Kinds → Expr → Type 0
-  AtLevel looseness rest y = Sound (suc n) (suc looseness) y → looseness + (standing_of y).tightness ≡ 10 → read_in deeper n (suc looseness) (expr_tokens y ++ rest) ≡ Ok (y, rest)
+  row_begins : (looseness : ℕ) → looseness < 10 → IsRead looseness → (x : Expr) (rest : Kinds) → Sound (suc n) looseness x → follows (11 - looseness) rest ≡ true → RowGoesOn looseness x rest
+  row_begins looseness lt before x rest i f = record {
+    turns = length rest;
+    enough = omega arith;
+    same = read_step looseness (expr_tokens x ++ rest) ∙ then_is _ _ (x, rest) _ (before x rest i f) (looser_is_row looseness x rest lt);
+  }
 
-  level_layer : (looseness : ℕ) → IsRead looseness → looseness ≤ 10 → (l : Expr-F CallForm Expr Operation Value) (rest : Kinds) → follows (10 - looseness) rest ≡ true → AtLevel looseness rest (roll-Expr l)
-  level_layer looseness before le (layer.Conditional test first second) rest f =
-      subst (AtLevel looseness rest) (sym (expr.rolls-Conditional test first second))
-      (λ i tight.
-      let s = ap (λ x. x.tightness) (conditional_standing test first second) in
-      let ten : looseness ≡ 10 = omega arith in
-      let zeroth : 10 - looseness ≡ 0 = omega arith in
-      let F : ℕ → Type 0 = λ l. follows l rest ≡ true in
-      let R : ℕ → Type 0 = λ l. IsRead l in
-      let S : ℕ → Type 0 = λ l. Sound (suc n) (suc l) (expr.Conditional test first second) in
-      let G : ℕ → Type 0 = λ l. read_in deeper n (suc l) (expr_tokens (expr.Conditional test first second) ++ rest) ≡ Ok (expr.Conditional test first second, rest) in
-      subst G (sym ten) (conditional_read (subst R ten before) test first second rest (subst S ten i) (subst F zeroth f)))
-  level_layer looseness before le (layer.Binary first []) rest f = subst (AtLevel looseness rest) (sym (expr.rolls-Binary first [])) (λ i tight. absurd (no_row first i.placed))
-  level_layer looseness before le (layer.Binary first (o ∷ more)) rest f =
-      subst (AtLevel looseness rest) (sym (expr.rolls-Binary first (o ∷ more))) (λ i tight. row_read looseness before le first o more rest i tight f)
-  level_layer looseness before le (layer.Unary op x) rest f = subst (AtLevel looseness rest) (sym (expr.rolls-Unary op x)) (λ i tight. absurd (let s = ap (λ x. x.tightness) (unary_standing op x) in omega arith))
-  level_layer looseness before le (layer.Cast to x) rest f = subst (AtLevel looseness rest) (sym (expr.rolls-Cast to x)) (λ i tight. absurd (let s = ap (λ x. x.tightness) (cast_standing to x) in omega arith))
-  level_layer looseness before le (layer.Number digits decimal long) rest f =
-      subst (AtLevel looseness rest) (sym (expr.rolls-Number digits decimal long)) (λ i tight. absurd (let s = ap (λ x. x.tightness) (number_standing digits decimal long) in omega arith))
-  level_layer looseness before le (layer.Bool value) rest f = subst (AtLevel looseness rest) (sym (expr.rolls-Bool value)) (λ i tight. absurd (let s = ap (λ x. x.tightness) (truth_standing value) in omega arith))
-  level_layer looseness before le (layer.Paren x) rest f = subst (AtLevel looseness rest) (sym (expr.rolls-Paren x)) (λ i tight. absurd (let s = ap (λ x. x.tightness) (paren_standing x) in omega arith))
-  level_layer looseness before le (layer.New name x) rest f = subst (AtLevel looseness rest) (sym (expr.rolls-New name x)) (λ i tight. absurd (let s = ap (λ x. x.tightness) (maker_standing name x) in omega arith))
-  level_layer looseness before le (layer.Name name) rest f = subst (AtLevel looseness rest) (sym (expr.rolls-Name name)) (λ i tight. absurd (let s = ap (λ x. x.tightness) (name_standing name) in omega arith))
-  level_layer looseness before le (layer.Index name x) rest f = subst (AtLevel looseness rest) (sym (expr.rolls-Index name x)) (λ i tight. absurd (let s = ap (λ x. x.tightness) (index_standing name x) in omega arith))
-  level_layer looseness before le (layer.Member object name) rest f = subst (AtLevel looseness rest) (sym (expr.rolls-Member object name)) (λ i tight. absurd (let s = ap (λ x. x.tightness) (member_standing object name) in omega arith))
-  level_layer looseness before le (layer.Call c) rest f = subst (AtLevel looseness rest) (sym (expr.rolls-Call c)) (λ i tight. absurd (let s = ap (λ x. x.tightness) (called_standing c) in omega arith))
+  -- one operator more
+  row_adds : (looseness turns : ℕ) (op : BinOp) (left right : Expr) (rest : Kinds) → looseness < 10 → operator_level op ≡ 10 - looseness → expr_height left ≤ n → Sound n looseness right → follows (11 - looseness) rest ≡ true
+      → suc (length (expr_tokens right ++ rest)) ≤ turns
+      → read_in deeper n (suc looseness) (expr_tokens left ++ (k.Symbol (operator_symbol op) ∷ (expr_tokens right ++ rest))) ≡ row_from deeper n looseness turns left (k.Symbol (operator_symbol op) ∷ (expr_tokens right ++ rest))
+      → RowGoesOn looseness (expr.Binary op left right) rest
+  row_adds looseness zero op left right rest lt level low i f enough so_far = absurd (omega arith)
+  row_adds looseness (suc turns) op left right rest lt level low i f enough so_far = record {
+    turns = turns;
+    enough = omega (arith, enough, length-append (expr_tokens right) rest);
+    same =
+        rw (binary_tokens op left right, append_assoc (expr_tokens left) (k.Symbol (operator_symbol op) ∷ expr_tokens right) rest)
+        (so_far ∙ row_turn looseness turns left op right rest level low (d.again looseness right rest (omega arith) i f));
+  }
+
+  module _ (looseness : ℕ) (before : IsRead looseness) where
+    abbrev GoesOn : ℕ → Type 0
+    GoesOn bound = (x : Expr) (rest : Kinds) → expr_height x ≤ bound → Sound (suc n) (suc looseness) x → follows (11 - looseness) rest ≡ true → looseness < 10 → RowGoesOn looseness x rest
+
+    row_of_operands : (op : BinOp) (left right : Expr) (rest : Kinds) → Sound (suc n) (suc looseness) (expr.Binary op left right) → looseness + (standing_of (expr.Binary op left right)).tightness ≡ 10
+        → follows (11 - looseness) rest ≡ true → looseness < 10 → ((later : Kinds) → Sound (suc n) (suc looseness) left → follows (11 - looseness) later ≡ true → RowGoesOn looseness left later)
+        → RowGoesOn looseness (expr.Binary op left right) rest
+    row_of_operands op left right rest i tight f lt later =
+        let s = ap (λ x. x.tightness) (binary_standing op left right) in
+        let p = in_binary n (suc looseness) op left right i in
+        let level : operator_level op ≡ 10 - looseness = omega (arith, s, tight) in
+        let behind = expr_tokens right ++ rest in
+        let next : suc (operator_level op) ≡ 11 - looseness = omega (arith, level) in
+        let F : ℕ → Type 0 = λ l. follows l (k.Symbol (operator_symbol op) ∷ behind) ≡ true in
+        let first : Sound (suc n) (suc looseness) left = record { placed = p.0; tight = omega (arith, p.1, level); height = omega (arith, p.2) } in
+        let second : Sound n looseness right = record { placed = p.3; tight = omega (arith, p.4, level); height = p.5 } in
+        let so_far = later (k.Symbol (operator_symbol op) ∷ behind) first (subst F next (operator_follows op behind)) in
+        row_adds looseness so_far.turns op left right rest lt level p.2 second f so_far.enough so_far.same
+
+    row_by : (bound : ℕ) (x : Expr) (rest : Kinds) → Top x → ((y : Expr) (later : Kinds) → expr_height y < bound → Sound (suc n) (suc looseness) y → follows (11 - looseness) later ≡ true → RowGoesOn looseness y later)
+        → expr_height x ≤ bound → Sound (suc n) (suc looseness) x → looseness + (standing_of x).tightness ≡ 10 → follows (11 - looseness) rest ≡ true → looseness < 10 → RowGoesOn looseness x rest
+    row_by bound x rest (Tests test first second e) later low i tight f lt =
+        absurd (let s = ap (λ y. (standing_of y).tightness) e ∙ ap (λ x. x.tightness) (conditional_standing test first second) in omega arith)
+    row_by bound x rest (Operates op left right e) later low i tight f lt =
+        let S : Expr → Type 0 = λ y. Sound (suc n) (suc looseness) y in
+        let T : Expr → Type 0 = λ y. looseness + (standing_of y).tightness ≡ 10 in
+        let R : Expr → Type 0 = λ y. RowGoesOn looseness y rest in
+        let high = ap expr_height e ∙ binary_height op left right in
+        subst R (sym e) (row_of_operands op left right rest (subst S e i) (subst T e tight) f lt (λ more j g. later left more (omega (arith, high, low)) j g))
+    row_by bound x rest (Holds h) later low i tight f lt = absurd (omega arith)
+
+    row_again : (bound : ℕ) → GoesOn bound
+    row_again zero x rest low i f lt =
+        elim (split_tight looseness (standing_of x).tightness i.tight) [
+          | inl t ↦ row_begins looseness lt before x rest (record { placed = i.placed; tight = t; height = i.height }) f
+          | inr t ↦ row_by zero x rest (top_of x) (λ y later less j g. absurd (omega arith)) low i t f lt
+        ]
+    row_again (suc bound) x rest low i f lt =
+        elim (split_tight looseness (standing_of x).tightness i.tight) [
+          | inl t ↦ row_begins looseness lt before x rest (record { placed = i.placed; tight = t; height = i.height }) f
+          | inr t ↦ row_by (suc bound) x rest (top_of x) (λ y later less j g. row_again bound y later (omega arith) j g lt) low i t f lt
+        ]
+
+    -- an expression that holds exactly at the next level
+    at_level : (x : Expr) (rest : Kinds) → Top x → looseness ≤ 10 → Sound (suc n) (suc looseness) x → looseness + (standing_of x).tightness ≡ 10 → follows (10 - looseness) rest ≡ true
+        → read_in deeper n (suc looseness) (expr_tokens x ++ rest) ≡ Ok (x, rest)
+    at_level x rest (Tests test first second e) le i tight f =
+        let s = ap (λ y. (standing_of y).tightness) e ∙ ap (λ x. x.tightness) (conditional_standing test first second) in
+        let ten : looseness ≡ 10 = omega arith in
+        let zeroth : 10 - looseness ≡ 0 = omega arith in
+        let F : ℕ → Type 0 = λ l. follows l rest ≡ true in
+        let R : ℕ → Type 0 = λ l. IsRead l in
+        let S : ℕ → Type 0 = λ l. Sound (suc n) (suc l) x in
+        let T : Expr → Type 0 = λ y. Sound (suc n) 11 y in
+        let G : ℕ → Type 0 = λ l. read_in deeper n (suc l) (expr_tokens x ++ rest) ≡ Ok (x, rest) in
+        let H : Expr → Type 0 = λ y. read_in deeper n 11 (expr_tokens y ++ rest) ≡ Ok (y, rest) in
+        subst G (sym ten) (subst H (sym e) (conditional_read (subst R ten before) test first second rest (subst T e (subst S ten i)) (subst F zeroth f)))
+    at_level x rest (Operates op left right e) le i tight f =
+        let s = ap (λ y. (standing_of y).tightness) e ∙ ap (λ x. x.tightness) (binary_standing op left right) in
+        let w = level_within op in
+        let row = row_again (expr_height x) x rest (omega arith) i (tighter (10 - looseness) (11 - looseness) rest (omega arith) f) (omega (arith, w.0, s)) in
+        let some = not_empty (10 - looseness) rest f in
+        row.same ∙ row_ends looseness row.turns x rest (omega (arith, row.enough, some)) f
+    at_level x rest (Holds h) le i tight f = absurd (omega arith)
 
   read_in_again : (looseness : ℕ) → looseness ≤ 11 → IsRead looseness
   read_in_again zero le x rest i f = read_operand x rest i f
@@ -499,8 +543,8 @@ module _ (n : ℕ) (deeper : ℕ → Kinds → Reading Expr) (d : Deeper n deepe
         | inl t ↦
             read_step looseness (expr_tokens x ++ rest)
             ∙ then_is _ _ (x, rest) _ (before x rest (record { placed = i.placed; tight = t; height = i.height }) (tighter (10 - looseness) (11 - looseness) rest (omega arith) g))
-            (looser_nothing looseness x rest (omega arith) i.height g)
-        | inr t ↦ subst (AtLevel looseness rest) (roll-out-Expr x) (level_layer looseness before (omega arith) (out-Expr x) rest g) i t
+            (looser_nothing looseness x rest (omega arith) g)
+        | inr t ↦ at_level looseness before x rest (top_of x) (omega arith) i t g
       ]
 
 -- ---- on any number of levels
@@ -525,7 +569,7 @@ read_opens (suc n) looseness ks x e =
 abbrev HasLevel : Expr → Type 0
 HasLevel y = (standing_of y).is_placed ≡ true → 0 < expr_height y
 
-call_layer_level : (l : CallForm-F CallForm Expr Operation Value) → 0 < call_height (roll-CallForm l)
+call_layer_level : (l : CallForm-F CallForm Expr Value) → 0 < call_height (roll-CallForm l)
 call_layer_level (layer.Own name args) = let P : CallForm → Type 0 = λ c. 0 < call_height c in subst P (sym (call.rolls-Own name args)) (let h = own_height name args in omega arith)
 call_layer_level (layer.Of object name args) = let P : CallForm → Type 0 = λ c. 0 < call_height c in subst P (sym (call.rolls-Of object name args)) (let h = of_height object name args in omega arith)
 call_layer_level (layer.OfMember object at name args) = let P : CallForm → Type 0 = λ c. 0 < call_height c in subst P (sym (call.rolls-OfMember object at name args)) (let h = of_member_height object at name args in omega arith)
@@ -533,16 +577,9 @@ call_layer_level (layer.OfMember object at name args) = let P : CallForm → Typ
 call_level : (c : CallForm) → 0 < call_height c
 call_level c = let P : CallForm → Type 0 = λ c. 0 < call_height c in subst P (roll-out-CallForm c) (call_layer_level (out-CallForm c))
 
-layer_level : (l : Expr-F CallForm Expr Operation Value) → HasLevel (roll-Expr l)
+layer_level : (l : Expr-F CallForm Expr Value) → HasLevel (roll-Expr l)
 layer_level (layer.Conditional test first second) = subst HasLevel (sym (expr.rolls-Conditional test first second)) (λ p. let h = conditional_height test first second in omega arith)
-layer_level (layer.Binary first []) = subst HasLevel (sym (expr.rolls-Binary first [])) (λ p. absurd (no_row first p))
-layer_level (layer.Binary first (o ∷ more)) =
-    subst HasLevel (sym (expr.rolls-Binary first (o ∷ more)))
-    (λ p.
-    let grows : expr_height (row first (o ∷ [])) ≤ expr_height (row first (o ∷ more)) = row_grows first (o ∷ []) more in
-    let one : expr_height (row first (o ∷ [])) ≡ suc (max (expr_height first) (expr_height (right_of o))) =
-    ap (λ (x : Operation). expr_height (row first (x ∷ []))) (sym (operation_is o)) ∙ row_more_height first [] (op_of o) (right_of o) in
-    omega (arith, grows, one))
+layer_level (layer.Binary op left right) = subst HasLevel (sym (expr.rolls-Binary op left right)) (λ p. let h = binary_height op left right in omega arith)
 layer_level (layer.Unary op x) = subst HasLevel (sym (expr.rolls-Unary op x)) (λ p. let h = unary_height op x in omega arith)
 layer_level (layer.Cast to x) = subst HasLevel (sym (expr.rolls-Cast to x)) (λ p. let h = cast_height to x in omega arith)
 layer_level (layer.Number digits decimal long) = subst HasLevel (sym (expr.rolls-Number digits decimal long)) (λ p. let h = number_height digits decimal long in omega arith)

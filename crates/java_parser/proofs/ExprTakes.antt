@@ -16,24 +16,20 @@ use Rattle.java_tree.specs.declared.token.Symbol.{Symbol}
 use Rattle.java_tree.specs.declared.token.Symbol.TheVariants as symbol
 use Rattle.java_tree.specs.declared.tree.Expr.{Expr}
 use Rattle.java_tree.specs.declared.tree.Expr.TheVariants as expr
-use Rattle.java_tree.specs.declared.tree.Operation.{Operation}
 use Rattle.java_tree.specs.declared.tree.Value.{Value}
 use Rattle.java_tree.specs.declared.tree.CallForm.TheVariants as call
 use Rattle.java_tree.specs.Levels.{operator_level}
 use Rattle.java_tree.specs.Tokens.{Kinds, global, separated, operator_symbol, unary_symbol, number_type, expr_tokens, value_tokens}
-use Rattle.java_tree.specs.Placed.{is_row}
 use Rattle.java_tree.specs.Heights.{expr_height}
 use Rattle.java_parser.specs.declared.operands.Opening.{Opening}
 use Rattle.java_parser.specs.declared.operands.Opening.TheVariants as opening
 use Rattle.java_parser.specs.Words.{◌>>=◌, Reading, refused, too_deep, begins, after, name_at}
 use Rattle.java_parser.specs.Members.{dot, at_sign, comma, open_paren, close_paren, open_bracket, close_bracket, optional_at}
-use Rattle.java_parser.specs.Expressions.{question, colon, binary_of, operator_ahead, of_level, operator_at, number_type_of, number_type_ahead, opening_word, opening_symbol, opening_of, begins_expr, tail, when_some, row, operation, valued, all_rows, value_in, other_value_in, other_values_in, values_in, args_in, of_in, own_in, member_in, of_member_in, index_in, named_in, called_in, cast_in, inner_in, paren_in, new_in, prefixed_in, operand_by, operand_in, row_from, row_in, conditional_in, looser_in, extended_in, read_in, read_at, expr_at, value_at, args_at}
+use Rattle.java_parser.specs.Expressions.{question, colon, binary_of, operator_ahead, of_level, operator_at, number_type_of, number_type_ahead, opening_word, opening_symbol, opening_of, begins_expr, tail, when_some, valued, all_rows, value_in, other_value_in, other_values_in, values_in, args_in, of_in, own_in, member_in, of_member_in, index_in, named_in, called_in, cast_in, inner_in, paren_in, new_in, prefixed_in, operand_by, operand_in, row_from, row_in, conditional_in, looser_in, extended_in, read_in, read_at, expr_at, value_at, args_at}
 use Rattle.java_parser.proofs.Laws.{both, bind_ok, same_Ok, chosen, Takes, Keeps, word_is, after_takes, name_takes, many_takes, many_keeps, separated-map}
 use Rattle.java_parser.proofs.Around.{optional, optional_takes}
-use Rattle.java_parser.proofs.TreeHeights.{row_more_height}
-use Rattle.java_parser.proofs.TreeTokens.{operation_tokens, args_tokens, conditional_tokens, binary_tokens, unary_tokens, cast_tokens, number_tokens, true_tokens, false_tokens, paren_tokens, maker_tokens, name_tokens, index_tokens, member_tokens, called_tokens, own_tokens, of_tokens, of_member_tokens, operated_tokens, valued_tokens}
-use Rattle.java_parser.proofs.TreeStandings.{operation_standing_of}
-use Rattle.java_parser.proofs.Sound.{Sound, SoundValue, SoundValues, looser, and_true, sound_number, sound_truth, sound_name, sound_member, sound_paren, sound_maker, sound_index, sound_unary, sound_cast, sound_called, sound_own, sound_of, sound_of_member, sound_conditional, sound_valued, sound_none, sound_more, sound_operation, sound_row}
+use Rattle.java_parser.proofs.TreeTokens.{args_tokens, conditional_tokens, binary_tokens, unary_tokens, cast_tokens, number_tokens, true_tokens, false_tokens, paren_tokens, maker_tokens, name_tokens, index_tokens, member_tokens, called_tokens, own_tokens, of_tokens, of_member_tokens, valued_tokens}
+use Rattle.java_parser.proofs.Sound.{Sound, SoundValue, SoundValues, looser, and_true, sound_number, sound_truth, sound_name, sound_member, sound_paren, sound_maker, sound_index, sound_unary, sound_cast, sound_called, sound_own, sound_of, sound_of_member, sound_conditional, sound_valued, sound_none, sound_more, sound_binary}
 
 -- ---- what the first tokens say
 
@@ -142,31 +138,6 @@ taken tokens P ks y x e h p = subst (λ (z : _ × Kinds). Taken tokens P ks z) (
 
 abbrev pub Reads : {A : Type 0} → (Kinds → Reading A) → (A → Kinds) → (A → Type 0) → Type 0
 Reads thing_at tokens P = (ks : Kinds) (x : _) → thing_at ks ≡ Ok x → Taken tokens P ks x
-
--- ---- rows
-
-pub row_tokens : (first : Expr) (operations : List Operation) → expr_tokens (row first operations) ≡ expr_tokens first ++ flat_map operation_tokens operations
-row_tokens first [] = sym (append-nil (expr_tokens first))
-row_tokens first (o ∷ more) = binary_tokens first (o ∷ more)
-
-flat_more : (operations : List Operation) (o : Operation) → flat_map operation_tokens (operations ++ o ∷ []) ≡ flat_map operation_tokens operations ++ operation_tokens o
-flat_more [] o = append-nil (operation_tokens o)
-flat_more (x ∷ operations) o = ap (λ (t : Kinds). operation_tokens x ++ t) (flat_more operations o) ∙ sym (append_assoc (operation_tokens x) (flat_map operation_tokens operations) (operation_tokens o))
-
-row_tokens_more : (first : Expr) (operations : List Operation) (op : BinOp) (right : Expr)
-    → expr_tokens (row first (operations ++ operation op right ∷ [])) ≡ expr_tokens (row first operations) ++ (k.Symbol (operator_symbol op) ∷ expr_tokens right)
-row_tokens_more first operations op right =
-    row_tokens first (operations ++ operation op right ∷ [])
-    ∙ ap (λ (t : Kinds). expr_tokens first ++ t) (flat_more operations (operation op right) ∙ ap (λ (t : Kinds). flat_map operation_tokens operations ++ t) (operated_tokens op right))
-    ∙ sym (append_assoc (expr_tokens first) (flat_map operation_tokens operations) (k.Symbol (operator_symbol op) ∷ expr_tokens right))
-    ∙ ap (λ (t : Kinds). t ++ (k.Symbol (operator_symbol op) ∷ expr_tokens right)) (sym (row_tokens first operations))
-
-is_row_more : (level : ℕ) (operations : List Operation) (o : Operation) → is_row level (map operation_standing_of operations) ≡ true
-    → ((operation_standing_of o).is_placed && nat_eq (operation_standing_of o).tightness level) ≡ true → is_row level (map operation_standing_of (operations ++ o ∷ [])) ≡ true
-is_row_more level [] o all one = and_true _ _ one refl
-is_row_more level (x ∷ operations) o all one =
-    let p = both ((operation_standing_of x).is_placed && nat_eq (operation_standing_of x).tightness level) (is_row level (map operation_standing_of operations)) all in
-    and_true _ _ p.0 (is_row_more level operations o p.1 one)
 
 pub not_below : (a b : ℕ) → nat_lt a b ≡ false → b ≤ a
 not_below a b h = grind (arith, nat_tests)
@@ -408,61 +379,44 @@ module _ (n : ℕ) (deeper : ℕ → Kinds → Reading Expr) (reads : (looseness
 
   -- ---- rows and conditionals, behind what was read of them
 
-  -- a row so far
-  record SoundRow (looseness : ℕ) (first : Expr) (found : List Operation) : Type 0 where
-    standing : is_row (10 - looseness) (map operation_standing_of found) ≡ true
-    height : expr_height (row first found) ≤ suc n
-
-  row_more : (looseness : ℕ) (first : Expr) (found : List Operation) (op : BinOp) (right : Expr) → looseness ≤ 10 → operator_level op ≡ 10 - looseness → SoundRow looseness first found
-      → expr_height (row first found) ≤ n → Sound n looseness right → SoundRow looseness first (found ++ operation op right ∷ [])
-  row_more looseness first found op right le level so_far low i =
-      let h = i.height in
-      record {
-        standing = is_row_more (10 - looseness) found (operation op right) so_far.standing (sound_operation n looseness op right le level i);
-        height = rw (row_more_height first found op right) (omega arith);
-      }
-
   -- where the turns that are left read so
-  row_step_reads : (looseness : ℕ) (first : Expr) (found : List Operation) (ks : Kinds) (x : Expr × Kinds) (more : List Operation → Kinds → Reading Expr) (o : Option BinOp) → looseness ≤ 10 → Sound (suc n) looseness first → SoundRow looseness first found
-      → ((all : List Operation) (rest : Kinds) → SoundRow looseness first all → more all rest ≡ Ok x → Taken expr_tokens (Sound (suc n) (suc looseness)) (expr_tokens (row first all) ++ rest) x)
+  row_step_reads : (looseness : ℕ) (left : Expr) (ks : Kinds) (x : Expr × Kinds) (more : Expr → Kinds → Reading Expr) (o : Option BinOp) → looseness ≤ 10 → Sound (suc n) (suc looseness) left
+      → ((y : Expr) (rest : Kinds) → Sound (suc n) (suc looseness) y → more y rest ≡ Ok x → Taken expr_tokens (Sound (suc n) (suc looseness)) (expr_tokens y ++ rest) x)
       → operator_at (10 - looseness) ks ≡ o
-      → when_some o
-      (λ op. if nat_lt n (expr_height (row first found)) then too_deep ks else (deeper looseness (tail ks) >>= λ right. more (found ++ operation op right.0 ∷ []) right.1))
-      (Ok (row first found, ks)) ≡ Ok x
-      → Taken expr_tokens (Sound (suc n) (suc looseness)) (expr_tokens (row first found) ++ ks) x
-  row_step_reads looseness first found ks x more None le i so_far later is e =
-      taken expr_tokens (Sound (suc n) (suc looseness)) (expr_tokens (row first found) ++ ks) (row first found, ks) x e refl (sound_row n looseness first found le i so_far.standing so_far.height)
-  row_step_reads looseness first found ks x more (Some op) le i so_far later is e =
-      elim (chosen (nat_lt n (expr_height (row first found))) (too_deep ks) (deeper looseness (tail ks) >>= λ right. more (found ++ operation op right.0 ∷ []) right.1) (Ok x) e) [
+      → when_some o (λ op. if nat_lt n (expr_height left) then too_deep ks else (deeper looseness (tail ks) >>= λ right. more (expr.Binary op left right.0) right.1)) (Ok (left, ks)) ≡ Ok x
+      → Taken expr_tokens (Sound (suc n) (suc looseness)) (expr_tokens left ++ ks) x
+  row_step_reads looseness left ks x more None le i later is e = taken expr_tokens (Sound (suc n) (suc looseness)) (expr_tokens left ++ ks) (left, ks) x e refl i
+  row_step_reads looseness left ks x more (Some op) le i later is e =
+      elim (chosen (nat_lt n (expr_height left)) (too_deep ks) (deeper looseness (tail ks) >>= λ right. more (expr.Binary op left right.0) right.1) (Ok x) e) [
         | inl h ↦ absurd (let wrong = h.1 in cc)
         | inr h ↦
             let a = bind_ok (deeper looseness (tail ks)) _ x h.1 in
             let j = reads looseness (omega arith) (tail ks) a.0 a.1 in
             let at = operator_is (10 - looseness) ks op is in
-            let low = not_below n (expr_height (row first found)) h.0 in
-            let next = later (found ++ operation op a.0.0 ∷ []) a.0.1 (row_more looseness first found op a.0.0 le at.1 so_far low j.sound) a.2 in
+            let low = not_below n (expr_height left) h.0 in
+            let next = later (expr.Binary op left a.0.0) a.0.1 (sound_binary n looseness op left a.0.0 le at.1 i low j.sound) a.2 in
             record {
               spelled =
-                  ap (λ (t : Kinds). expr_tokens (row first found) ++ t) (at.0 ∙ ap (λ (t : Kinds). k.Symbol (operator_symbol op) ∷ t) j.spelled)
-                  ∙ sym (append_assoc (expr_tokens (row first found)) (k.Symbol (operator_symbol op) ∷ expr_tokens a.0.0) a.0.1)
-                  ∙ ap (λ (t : Kinds). t ++ a.0.1) (sym (row_tokens_more first found op a.0.0))
+                  ap (λ (t : Kinds). expr_tokens left ++ t) (at.0 ∙ ap (λ (t : Kinds). k.Symbol (operator_symbol op) ∷ t) j.spelled)
+                  ∙ sym (append_assoc (expr_tokens left) (k.Symbol (operator_symbol op) ∷ expr_tokens a.0.0) a.0.1)
+                  ∙ ap (λ (t : Kinds). t ++ a.0.1) (sym (binary_tokens op left a.0.0))
                   ∙ next.spelled;
               sound = next.sound;
             }
       ]
 
-  row_from_reads : (looseness turns : ℕ) (first : Expr) (found : List Operation) (ks : Kinds) (x : _) → looseness ≤ 10 → Sound (suc n) looseness first → SoundRow looseness first found
-      → row_from deeper n looseness turns first found ks ≡ Ok x → Taken expr_tokens (Sound (suc n) (suc looseness)) (expr_tokens (row first found) ++ ks) x
+  row_from_reads : (looseness turns : ℕ) (left : Expr) (ks : Kinds) (x : _) → looseness ≤ 10 → Sound (suc n) (suc looseness) left
+      → row_from deeper n looseness turns left ks ≡ Ok x → Taken expr_tokens (Sound (suc n) (suc looseness)) (expr_tokens left ++ ks) x
   unfolding row_from
-  row_from_reads looseness zero first found ks x le i so_far e = absurd cc
-  row_from_reads looseness (suc turns) first found ks x le i so_far e =
-      row_step_reads looseness first found ks x (λ all rest. row_from deeper n looseness turns first all rest) (operator_at (10 - looseness) ks) le i so_far
-      (λ all rest sound h. row_from_reads looseness turns first all rest x le i sound h) refl e
+  row_from_reads looseness zero left ks x le i e = absurd cc
+  row_from_reads looseness (suc turns) left ks x le i e =
+      row_step_reads looseness left ks x (λ y rest. row_from deeper n looseness turns y rest) (operator_at (10 - looseness) ks) le i
+      (λ y rest sound h. row_from_reads looseness turns y rest x le sound h) refl e
 
   row_reads : (looseness : ℕ) (first : Expr) (ks : Kinds) (x : _) → looseness ≤ 10 → Sound (suc n) looseness first → row_in deeper n looseness first ks ≡ Ok x
       → Taken expr_tokens (Sound (suc n) (suc looseness)) (expr_tokens first ++ ks) x
   unfolding row_in
-  row_reads looseness first ks x le i e = row_from_reads looseness (length ks) first [] ks x le i (record { standing = refl; height = i.height }) e
+  row_reads looseness first ks x le i e = row_from_reads looseness (length ks) first ks x le (looser i) e
 
   conditional_reads : (test : Expr) (ks : Kinds) (x : _) → Sound (suc n) 10 test → conditional_in deeper n test ks ≡ Ok x → Taken expr_tokens (Sound (suc n) 11) (expr_tokens test ++ ks) x
   unfolding conditional_in

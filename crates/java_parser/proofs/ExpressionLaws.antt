@@ -4,7 +4,6 @@ use Rattle.std.proofs.Common.{◌≡◌, ℕ, suc, ◌≤◌, Bool, true, false,
 use Rattle.java_tree.specs.declared.token.Kind.TheVariants as k
 use Rattle.java_tree.specs.declared.tree.Expr.{Expr, out-Expr, roll-Expr, roll-out-Expr}
 use Rattle.java_tree.specs.declared.tree.Expr.TheVariants as expr
-use Rattle.java_tree.specs.declared.tree.Operation.{Operation}
 use Rattle.java_tree.specs.declared.tree.Value.{Value}
 use Rattle.java_tree.specs.declared.tree.CallForm.{CallForm}
 use Rattle.java_tree.specs.declared.tree.CallForm.TheOpen.{Expr-F}
@@ -87,7 +86,7 @@ value_not_semicolon n ks x e =
 -- ---- calls
 
 -- an expression that is the call that was given
-call_is : (l : Expr-F CallForm Expr Operation Value) (rest : Kinds) (c : CallForm × Kinds) → call_of l rest ≡ Ok c → (l ≡ layer.Call c.0) × (rest ≡ c.1)
+call_is : (l : Expr-F CallForm Expr Value) (rest : Kinds) (c : CallForm × Kinds) → call_of l rest ≡ Ok c → (l ≡ layer.Call c.0) × (rest ≡ c.1)
 call_is (layer.Call d) rest c e = let same = same_Ok (d, rest) c e in (ap (λ (z : CallForm × Kinds). layer.Call z.0) same, ap (λ (z : CallForm × Kinds). z.1) same)
 call_is _ rest c e = absurd cc
 

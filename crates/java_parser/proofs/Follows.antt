@@ -9,19 +9,13 @@ use Rattle.java_tree.specs.declared.token.Kind.{Kind}
 use Rattle.java_tree.specs.declared.token.Kind.TheVariants as k
 use Rattle.java_tree.specs.declared.token.Reserved.{Reserved}
 use Rattle.java_tree.specs.declared.token.Reserved.TheVariants as word
-use Rattle.java_tree.specs.declared.tree.Expr.{Expr}
-use Rattle.java_tree.specs.declared.tree.Operation.{Operation, out-Operation, roll-out-Operation}
 use Rattle.java_tree.specs.Levels.{operator_level}
-use Rattle.java_tree.specs.Tokens.{Kinds, operator_symbol, expr_tokens}
-use Rattle.java_tree.specs.Placed.{holding, is_above, is_row, standing_of}
+use Rattle.java_tree.specs.Tokens.{Kinds, operator_symbol}
 use Rattle.java_parser.specs.declared.operands.Opening.TheVariants as opening
 use Rattle.java_parser.specs.Words.{same_word, begins}
 use Rattle.java_parser.specs.Members.{dot, open_paren, open_bracket}
-use Rattle.java_parser.specs.Expressions.{question, operator_ahead, of_level, operator_at, holds_from, follows, opening_of, opening_word, is_other, begins_expr, number_type_of, number_type_ahead, operation}
+use Rattle.java_parser.specs.Expressions.{question, operator_ahead, of_level, operator_at, holds_from, follows, opening_of, opening_word, is_other, begins_expr, number_type_of, number_type_ahead}
 use Rattle.java_parser.proofs.Laws.{both, word_is}
-use Rattle.java_parser.proofs.TreeTokens.{operation_tokens, operated_tokens}
-use Rattle.java_parser.proofs.TreeStandings.{operation_standing_of, operated_standing}
-use Rattle.java_parser.proofs.Sound.{below}
 
 pub record Ends (level : ℕ) (rest : Kinds) : Type 0 where
   pub no_operator : holds_from level (operator_ahead rest) ≡ false
@@ -91,7 +85,7 @@ operator_found bin.Or rest = refl
 operator_found bin.AndAlso rest = refl
 operator_found bin.OrElse rest = refl
 
-operator_follows : (op : BinOp) (rest : Kinds) → follows (suc (operator_level op)) (k.Symbol (operator_symbol op) ∷ rest) ≡ true
+pub operator_follows : (op : BinOp) (rest : Kinds) → follows (suc (operator_level op)) (k.Symbol (operator_symbol op) ∷ rest) ≡ true
 unfolding follows operator_ahead begins same_word
 operator_follows bin.Mul rest = refl
 operator_follows bin.Div rest = refl
@@ -133,53 +127,6 @@ level_within bin.Xor = (omega arith, omega arith)
 level_within bin.Or = (omega arith, omega arith)
 level_within bin.AndAlso = (omega arith, omega arith)
 level_within bin.OrElse = (omega arith, omega arith)
-
--- ---- operations, by their parts
-
-abbrev pub op_of : Operation → BinOp
-op_of o = (out-Operation o).op
-
-abbrev pub right_of : Operation → Expr
-right_of o = (out-Operation o).right
-
-pub operation_is : (o : Operation) → operation (op_of o) (right_of o) ≡ o
-operation_is o = roll-out-Operation o
-
-pub tokens_of_operation : (o : Operation) → operation_tokens o ≡ k.Symbol (operator_symbol (op_of o)) ∷ expr_tokens (right_of o)
-tokens_of_operation o = ap operation_tokens (sym (operation_is o)) ∙ operated_tokens (op_of o) (right_of o)
-
-pub standing_of_operation : (o : Operation) → operation_standing_of o ≡ holding (operator_level (op_of o)) (is_above (operator_level (op_of o)) (standing_of (right_of o)))
-standing_of_operation o = ap operation_standing_of (sym (operation_is o)) ∙ operated_standing (op_of o) (right_of o)
-
--- an operation of a row has its level, and an operand that holds tighter
-pub record InRow (level : ℕ) (o : Operation) (more : List Operation) : Type 0 where
-  pub level_is : operator_level (op_of o) ≡ level
-  pub placed : (standing_of (right_of o)).is_placed ≡ true
-  pub tight : level < (standing_of (right_of o)).tightness
-  pub others : is_row level (map operation_standing_of more) ≡ true
-
-pub in_row : (level : ℕ) (o : Operation) (more : List Operation) → is_row level (map operation_standing_of (o ∷ more)) ≡ true → InRow level o more
-in_row level o more h =
-    let p = both ((operation_standing_of o).is_placed && nat_eq (operation_standing_of o).tightness level) (is_row level (map operation_standing_of more)) h in
-    let q = both (operation_standing_of o).is_placed (nat_eq (operation_standing_of o).tightness level) p.0 in
-    let s = standing_of_operation o in
-    let same : operator_level (op_of o) ≡ level = ap (λ x. x.tightness) (sym s) ∙ (Decides-eqb (operation_standing_of o).tightness level).0 q.1 in
-    let a = below (operator_level (op_of o)) (standing_of (right_of o)) (ap (λ x. x.is_placed) (sym s) ∙ q.0) in
-    record { level_is = same; placed = a.0; tight = omega (arith, a.1, same); others = p.1 }
-
--- behind an operand of a row comes its next operator, or what follows the row
-pub row_follows : (level : ℕ) (more : List Operation) (rest : Kinds) → is_row level (map operation_standing_of more) ≡ true → follows level rest ≡ true → follows (suc level) (flat_map operation_tokens more ++ rest) ≡ true
-row_follows level [] rest h f = tighter level (suc level) rest (omega arith) f
-row_follows level (o ∷ more) rest h f =
-    let r = in_row level o more h in
-    let P : ℕ → Type 0 = λ l. follows (suc l) (k.Symbol (operator_symbol (op_of o)) ∷ ((expr_tokens (right_of o) ++ flat_map operation_tokens more) ++ rest)) ≡ true in
-    rw (tokens_of_operation o) (subst P r.level_is (operator_follows (op_of o) ((expr_tokens (right_of o) ++ flat_map operation_tokens more) ++ rest)))
-
-pub row_length : (operations : List Operation) (rest : Kinds) → length operations + length rest ≤ length (flat_map operation_tokens operations ++ rest)
-row_length [] rest = omega arith
-row_length (o ∷ more) rest =
-    rw (tokens_of_operation o, append_assoc (expr_tokens (right_of o)) (flat_map operation_tokens more) rest)
-    (omega (arith, row_length more rest, length-append (expr_tokens (right_of o)) (flat_map operation_tokens more ++ rest)))
 
 -- ---- what no expression begins with
 

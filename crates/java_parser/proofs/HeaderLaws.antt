@@ -6,10 +6,10 @@ use Rattle.java_tree.specs.declared.tree.Simple.{Simple}
 use Rattle.java_tree.specs.declared.tree.ForInit.{ForInit}
 use Rattle.java_tree.specs.declared.tree.ForInit.TheVariants as for_init
 use Rattle.java_tree.specs.declared.tree.Expr.{Expr}
-use Rattle.java_tree.specs.Tokens.{Kinds, in_parentheses, expr_tokens, init_tokens, condition}
+use Rattle.java_tree.specs.Tokens.{Kinds, in_parentheses, expr_tokens, init_tokens, condition, header_tokens}
 use Rattle.java_tree.specs.Placed.{all_of, is_placed_expr, is_placed_option, is_placed_simple, is_placed_init}
 use Rattle.java_tree.specs.Heights.{greatest, option_height, expr_height, simple_height, init_height}
-use Rattle.java_parser.specs.declared.headers.ForHeader.{ForHeader}
+use Rattle.java_tree.specs.declared.tree.ForHeader.{ForHeader}
 use Rattle.java_parser.specs.Words.{◌>>=◌, Fault, Reading, same_word, begins, after}
 use Rattle.java_parser.specs.Members.{comma, semicolon, open_paren, close_paren}
 use Rattle.java_parser.specs.Expressions.{expr_at}
@@ -124,8 +124,8 @@ pub record HeaderFits (n : ℕ) (h : ForHeader) : Type 0 where
   pub test_low : option_height expr_height h.test ≤ n
   pub update_low : greatest (map simple_height h.update) ≤ n
 
-abbrev pub header_tokens : ForHeader → Kinds
-header_tokens h = k.Reserved word.For ∷ in_parentheses (init_tokens h.init ++ (semicolon ∷ (condition h.test ++ (semicolon ∷ simples_tokens h.update))))
+abbrev pub for_tokens : ForHeader → Kinds
+for_tokens h = k.Reserved word.For ∷ in_parentheses (header_tokens h)
 
 header_form : (init test update rest : Kinds)
     → k.Reserved word.For ∷ open_paren ∷ (init ++ (semicolon ∷ (test ++ (semicolon ∷ (update ++ (close_paren ∷ rest)))))) ≡ (k.Reserved word.For ∷ in_parentheses (init ++ (semicolon ∷ (test ++ (semicolon ∷ update))))) ++ rest
@@ -164,7 +164,7 @@ step_by_step n ks =
     ∙ in_a_row (update_at n rest) _ _ _ (λ update.
     in_a_row (after (close_paren ∷ []) update.1) _ _ _ (λ rest. refl)))))))
 
-pub header_takes : (n : ℕ) → Takes (header_at n) header_tokens
+pub header_takes : (n : ℕ) → Takes (header_at n) for_tokens
 header_takes n ks x given_by =
     let e = sym (step_by_step n ks) ∙ given_by in
     let opening = k.Reserved word.For ∷ open_paren ∷ [] in
@@ -181,7 +181,7 @@ header_takes n ks x given_by =
     ∙ ap (λ (t : Kinds). condition d.0.0 ++ t) (after_takes (semicolon ∷ []) d.0.1 f.0 f.1
     ∙ ap (λ (t : Kinds). semicolon ∷ t) (update_takes n f.0 g.0 g.1
     ∙ ap (λ (t : Kinds). simples_tokens g.0.0 ++ t) (after_takes (close_paren ∷ []) g.0.1 h.0 h.1)))) in
-    given header_tokens ks (record { init = b.0.0; test = d.0.0; update = g.0.0 }, h.0) x h.2
+    given for_tokens ks (record { init = b.0.0; test = d.0.0; update = g.0.0 }, h.0) x h.2
     (after_takes opening ks a.0 a.1 ∙ ap (λ (t : Kinds). opening ++ t) (init_takes n a.0 b.0 b.1 ∙ ap (λ (t : Kinds). init_tokens b.0.0 ++ t) tail)
     ∙ header_form (init_tokens b.0.0) (condition d.0.0) (simples_tokens g.0.0) h.0)
 
@@ -201,7 +201,7 @@ header_keeps n ks x given_by =
     kept (HeaderFits n) (record { init = b.0.0; test = d.0.0; update = g.0.0 }, h.0) x h.2
     (record { init_placed = init.0; test_placed = test.0; update_placed = update.0; init_low = init.1; test_low = test.1; update_low = update.1 })
 
-pub header_again : (n : ℕ) → Again (header_at n) header_tokens (HeaderFits n) Any
+pub header_again : (n : ℕ) → Again (header_at n) for_tokens (HeaderFits n) Any
 header_again n h rest p g =
     let opening = k.Reserved word.For ∷ open_paren ∷ [] in
     let last = simples_tokens h.update ++ (close_paren ∷ rest) in

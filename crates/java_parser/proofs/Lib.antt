@@ -1,6 +1,7 @@
 pub mod Steps
 pub mod After
 pub mod Many
+pub mod Places
 pub mod Laws
 pub mod Around
 pub mod TreeLayers

@@ -5,65 +5,65 @@ use Rattle.std.proofs.lemmas.Bool.Decides.{nat_tests}
 use Rattle.sdg_base.specs.declared.operator.BinOp.{BinOp}
 use Rattle.java_tree.specs.declared.token.Token.{Token}
 use Rattle.java_tree.specs.declared.tree.Expr.{Expr}
-use Rattle.java_tree.specs.declared.tree.Operation.{Operation}
+use Rattle.java_tree.specs.declared.tree.Expr.TheVariants as expr
 use Rattle.java_tree.specs.Tokens.{Kinds}
 use Rattle.java_tree.specs.Heights.{expr_height}
 use Rattle.java_parser.specs.declared.error.Refusal.{Refusal}
 use Rattle.java_parser.specs.declared.error.Refusal.TheVariants as refusal
 use Rattle.java_parser.specs.Words.{◌>>=◌, Reading, Fails, kinds}
 use Rattle.java_parser.specs.Words.Fault.{NoClass, TooDeep}
-use Rattle.java_parser.specs.Expressions.{operator_at, tail, row, operation, row_from, row_in, looser_in, extended_in}
+use Rattle.java_parser.specs.Expressions.{operator_at, tail, row_from, row_in, looser_in, extended_in}
 use Rattle.java_parser.proofs.Steps.{goes_on, fails}
 
-module _ (deeper : ℕ → Kinds → Reading Expr) (levels looseness : ℕ) (first : Expr) where
-  abbrev left : ℕ → List Operation → Kinds → Reading Expr
-  left turns found rest = row_from deeper levels looseness turns first found rest
+module _ (deeper : ℕ → Kinds → Reading Expr) (levels looseness : ℕ) where
+  abbrev going_on : ℕ → Expr → Kinds → Reading Expr
+  going_on turns left rest = row_from deeper levels looseness turns left rest
 
-  pub row_start : (tokens : List Token) → left (length tokens - 0) [] (kinds tokens) ≡ row_in deeper levels looseness first (kinds tokens)
+  pub row_start : (first : Expr) (tokens : List Token) → going_on (length tokens - 0) first (kinds tokens) ≡ row_in deeper levels looseness first (kinds tokens)
   unfolding row_in
-  row_start tokens =
+  row_start first tokens =
       let k : length tokens - 0 ≡ length (kinds tokens) = omega (arith, length-map tokens (λ t. t.kind)) in
-      ap (λ n. left n [] (kinds tokens)) k
+      ap (λ n. going_on n first (kinds tokens)) k
 
-  pub row_done : (n i : ℕ) (found : List Operation) (rest : Kinds) (whole : Reading Expr) → i < n → operator_at (10 - looseness) rest ≡ None → left (n - i) found rest ≡ whole → whole ≡ Ok (row first found, rest)
+  pub row_done : (n i : ℕ) (left : Expr) (rest : Kinds) (whole : Reading Expr) → i < n → operator_at (10 - looseness) rest ≡ None → going_on (n - i) left rest ≡ whole → whole ≡ Ok (left, rest)
   unfolding row_from
-  row_done n i found rest whole lt none so_far =
+  row_done n i left rest whole lt none so_far =
       let k : n - i ≡ suc (n - (i + 1)) = omega arith in
-      let one : left (n - i) found rest ≡ Ok (row first found, rest) = rw (k, none) refl in
+      let one : going_on (n - i) left rest ≡ Ok (left, rest) = rw (k, none) refl in
       sym so_far ∙ one
 
-  pub row_deep : (n i : ℕ) (found : List Operation) (rest : List Token) (op : BinOp) (whole : Reading Expr) → i < n → operator_at (10 - looseness) (kinds rest) ≡ Some op → levels < expr_height (row first found)
-      → left (n - i) found (kinds rest) ≡ whole → whole ≡ Err (TooDeep (length rest))
+  pub row_deep : (n i : ℕ) (left : Expr) (rest : List Token) (op : BinOp) (whole : Reading Expr) → i < n → operator_at (10 - looseness) (kinds rest) ≡ Some op → levels < expr_height left
+      → going_on (n - i) left (kinds rest) ≡ whole → whole ≡ Err (TooDeep (length rest))
   unfolding row_from
-  row_deep n i found rest op whole lt some deep so_far =
+  row_deep n i left rest op whole lt some deep so_far =
       let k : n - i ≡ suc (n - (i + 1)) = omega arith in
-      let over : nat_lt levels (expr_height (row first found)) ≡ true = grind (arith, nat_tests) in
-      let one : left (n - i) found (kinds rest) ≡ Err (TooDeep (length rest)) = rw (k, some, over) (ap (λ left. Err (TooDeep left)) (length-map rest (λ t. t.kind))) in
+      let over : nat_lt levels (expr_height left) ≡ true = grind (arith, nat_tests) in
+      let one : going_on (n - i) left (kinds rest) ≡ Err (TooDeep (length rest)) = rw (k, some, over) (ap (λ left. Err (TooDeep left)) (length-map rest (λ t. t.kind))) in
       sym so_far ∙ one
 
-  row_one : (n i : ℕ) (found : List Operation) (rest : Kinds) (op : BinOp) → i < n → operator_at (10 - looseness) rest ≡ Some op → expr_height (row first found) ≤ levels
-      → left (n - i) found rest ≡ (deeper looseness (tail rest) >>= λ right. left (n - (i + 1)) (found ++ operation op right.0 ∷ []) right.1)
+  row_one : (n i : ℕ) (left : Expr) (rest : Kinds) (op : BinOp) → i < n → operator_at (10 - looseness) rest ≡ Some op → expr_height left ≤ levels
+      → going_on (n - i) left rest ≡ (deeper looseness (tail rest) >>= λ right. going_on (n - (i + 1)) (expr.Binary op left right.0) right.1)
   unfolding row_from
-  row_one n i found rest op lt some low =
+  row_one n i left rest op lt some low =
       let k : n - i ≡ suc (n - (i + 1)) = omega arith in
-      let under : nat_lt levels (expr_height (row first found)) ≡ false = grind (arith, nat_tests) in
+      let under : nat_lt levels (expr_height left) ≡ false = grind (arith, nat_tests) in
       rw (k, some, under) refl
 
-  pub row_next : (n i : ℕ) (found : List Operation) (rest : Kinds) (op : BinOp) (right : Expr) (behind : Kinds) (whole : Reading Expr) → i < n → operator_at (10 - looseness) rest ≡ Some op → expr_height (row first found) ≤ levels
-      → deeper looseness (tail rest) ≡ Ok (right, behind) → left (n - i) found rest ≡ whole → left (n - (i + 1)) (found ++ operation op right ∷ []) behind ≡ whole
-  row_next n i found rest op right behind whole lt some low here so_far =
-      goes_on (deeper looseness (tail rest)) (right, behind) (λ x. left (n - (i + 1)) (found ++ operation op x.0 ∷ []) x.1) _ whole (row_one n i found rest op lt some low) here so_far
+  pub row_next : (n i : ℕ) (left : Expr) (rest : Kinds) (op : BinOp) (right : Expr) (behind : Kinds) (whole : Reading Expr) → i < n → operator_at (10 - looseness) rest ≡ Some op → expr_height left ≤ levels
+      → deeper looseness (tail rest) ≡ Ok (right, behind) → going_on (n - i) left rest ≡ whole → going_on (n - (i + 1)) (expr.Binary op left right) behind ≡ whole
+  row_next n i left rest op right behind whole lt some low here so_far =
+      goes_on (deeper looseness (tail rest)) (right, behind) (λ x. going_on (n - (i + 1)) (expr.Binary op left x.0) x.1) _ whole (row_one n i left rest op lt some low) here so_far
 
-  pub row_fails : (e : Refusal) (n i : ℕ) (found : List Operation) (rest : Kinds) (op : BinOp) (whole : Reading Expr) → i < n → operator_at (10 - looseness) rest ≡ Some op → expr_height (row first found) ≤ levels
-      → Fails e (deeper looseness (tail rest)) → left (n - i) found rest ≡ whole → Fails e whole
-  row_fails e n i found rest op whole lt some low here so_far =
-      fails e (deeper looseness (tail rest)) (λ x. left (n - (i + 1)) (found ++ operation op x.0 ∷ []) x.1) _ whole (row_one n i found rest op lt some low) here so_far
+  pub row_fails : (e : Refusal) (n i : ℕ) (left : Expr) (rest : Kinds) (op : BinOp) (whole : Reading Expr) → i < n → operator_at (10 - looseness) rest ≡ Some op → expr_height left ≤ levels
+      → Fails e (deeper looseness (tail rest)) → going_on (n - i) left rest ≡ whole → Fails e whole
+  row_fails e n i left rest op whole lt some low here so_far =
+      fails e (deeper looseness (tail rest)) (λ x. going_on (n - (i + 1)) (expr.Binary op left x.0) x.1) _ whole (row_one n i left rest op lt some low) here so_far
 
-  pub row_out : (n i : ℕ) (found : List Operation) (rest : List Token) (whole : Reading Expr) → n ≤ i → left (n - i) found (kinds rest) ≡ whole → whole ≡ Err (NoClass (length rest))
+  pub row_out : (n i : ℕ) (left : Expr) (rest : List Token) (whole : Reading Expr) → n ≤ i → going_on (n - i) left (kinds rest) ≡ whole → whole ≡ Err (NoClass (length rest))
   unfolding row_from
-  row_out n i found rest whole le so_far =
+  row_out n i left rest whole le so_far =
       let k : n - i ≡ 0 = omega arith in
-      let one : left (n - i) found (kinds rest) ≡ Err (NoClass (length rest)) = rw k (ap (λ left. Err (NoClass left)) (length-map rest (λ t. t.kind))) in
+      let one : going_on (n - i) left (kinds rest) ≡ Err (NoClass (length rest)) = rw k (ap (λ left. Err (NoClass left)) (length-map rest (λ t. t.kind))) in
       sym so_far ∙ one
 
 module _ (deeper : ℕ → Kinds → Reading Expr) (levels : ℕ) (operand : Expr) (tokens : Kinds) where

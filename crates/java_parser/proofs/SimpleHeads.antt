@@ -13,8 +13,7 @@ use Rattle.java_tree.specs.declared.tree.CallForm.TheOpen.{CallForm-F}
 use Rattle.java_tree.specs.declared.tree.CallForm.TheOpen as layer
 use Rattle.java_tree.specs.declared.tree.CallForm.TheFolds.{fold-roll-CallForm}
 use Rattle.java_tree.specs.declared.tree.Expr.{Expr}
-use Rattle.java_tree.specs.declared.tree.Operation.{Operation}
-use Rattle.java_tree.specs.Tokens.{Kinds, assign_symbol, simple_tokens, value_tokens, call_tokens, call_step, expr_step, operation_step, value_step}
+use Rattle.java_tree.specs.Tokens.{Kinds, assign_symbol, simple_tokens, value_tokens, call_tokens, call_step, expr_step, value_step}
 use Rattle.java_parser.specs.declared.forms.SimpleForm.{SimpleForm}
 use Rattle.java_parser.specs.declared.forms.SimpleForm.TheVariants as form
 use Rattle.java_parser.specs.declared.forms.StatementForm.TheVariants as statement
@@ -47,13 +46,13 @@ named_head : (s : Symbol) (name : List ℕ) (more : Kinds) → BeginsSimple (for
 unfolding simple_form local_ahead begins_name begins same_word statement_form has_more
 named_head s name more = record { form_is = refl; not_local = refl; not_semicolon = refl; not_close = refl; statement_is = refl; goes_on = refl; not_else = refl }
 
-call_layer_begins : (x : CallForm-F CallForm Expr Operation Value) (rest : Kinds) → BeginsSimple form.Call (call_tokens (roll-CallForm x) ++ rest)
+call_layer_begins : (x : CallForm-F CallForm Expr Value) (rest : Kinds) → BeginsSimple form.Call (call_tokens (roll-CallForm x) ++ rest)
 call_layer_begins (layer.Own name args) rest =
-    subst (λ (ks : Kinds). BeginsSimple form.Call (ks ++ rest)) (sym (fold-roll-CallForm Kinds Kinds Kinds Kinds call_step expr_step operation_step value_step (layer.Own name args))) (named_head symbol.OpenParen name _)
+    subst (λ (ks : Kinds). BeginsSimple form.Call (ks ++ rest)) (sym (fold-roll-CallForm Kinds Kinds Kinds call_step expr_step value_step (layer.Own name args))) (named_head symbol.OpenParen name _)
 call_layer_begins (layer.Of object name args) rest =
-    subst (λ (ks : Kinds). BeginsSimple form.Call (ks ++ rest)) (sym (fold-roll-CallForm Kinds Kinds Kinds Kinds call_step expr_step operation_step value_step (layer.Of object name args))) (named_head symbol.Dot object _)
+    subst (λ (ks : Kinds). BeginsSimple form.Call (ks ++ rest)) (sym (fold-roll-CallForm Kinds Kinds Kinds call_step expr_step value_step (layer.Of object name args))) (named_head symbol.Dot object _)
 call_layer_begins (layer.OfMember object at name args) rest =
-    subst (λ (ks : Kinds). BeginsSimple form.Call (ks ++ rest)) (sym (fold-roll-CallForm Kinds Kinds Kinds Kinds call_step expr_step operation_step value_step (layer.OfMember object at name args))) (named_head symbol.OpenBracket object _)
+    subst (λ (ks : Kinds). BeginsSimple form.Call (ks ++ rest)) (sym (fold-roll-CallForm Kinds Kinds Kinds call_step expr_step value_step (layer.OfMember object at name args))) (named_head symbol.OpenBracket object _)
 
 call_begins : (c : CallForm) (rest : Kinds) → BeginsSimple form.Call (call_tokens c ++ rest)
 call_begins c rest = subst (λ (d : CallForm). BeginsSimple form.Call (call_tokens d ++ rest)) (roll-out-CallForm c) (call_layer_begins (out-CallForm c) rest)

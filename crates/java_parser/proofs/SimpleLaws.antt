@@ -13,10 +13,9 @@ use Rattle.java_tree.specs.declared.tree.CallForm.TheOpen.{CallForm-F}
 use Rattle.java_tree.specs.declared.tree.CallForm.TheOpen as layer
 use Rattle.java_tree.specs.declared.tree.CallForm.TheFolds.{fold-roll-CallForm}
 use Rattle.java_tree.specs.declared.tree.Expr.{Expr}
-use Rattle.java_tree.specs.declared.tree.Operation.{Operation}
 use Rattle.java_tree.specs.Tokens.{Kinds, separated, annotation, assign_symbol, simple_tokens, value_tokens, call_tokens}
 use Rattle.java_tree.specs.Placed.{all_of, is_placed_simple}
-use Rattle.java_tree.specs.Heights.{call_layer_height, expr_layer_height, operation_layer_height, value_layer_height, greatest, call_height, simple_height}
+use Rattle.java_tree.specs.Heights.{call_layer_height, expr_layer_height, value_layer_height, greatest, call_height, simple_height}
 use Rattle.java_parser.specs.declared.forms.SimpleForm.{SimpleForm}
 use Rattle.java_parser.specs.declared.forms.SimpleForm.TheVariants as form
 use Rattle.java_parser.specs.Words.{◌>>=◌, Reading, begins, after, name_at}
@@ -140,13 +139,13 @@ simple_keeps : (n : ℕ) → Keeps (simple_at n) (SimpleFits n)
 unfolding simple_at
 simple_keeps n ks x e = let m = bind_ok (inside n ks) _ x e in let fits = simple_in_keeps m.0 ks x m.2 in (fits.0, omega (arith, fits.1, inside_is n ks m.0 m.1))
 
-call_layer_is_high : (x : CallForm-F CallForm Expr Operation Value) → 0 < call_height (roll-CallForm x)
+call_layer_is_high : (x : CallForm-F CallForm Expr Value) → 0 < call_height (roll-CallForm x)
 call_layer_is_high (layer.Own name args) =
-    subst (λ (h : ℕ). 0 < h) (sym (fold-roll-CallForm ℕ ℕ ℕ ℕ call_layer_height expr_layer_height operation_layer_height value_layer_height (layer.Own name args))) (omega arith)
+    subst (λ (h : ℕ). 0 < h) (sym (fold-roll-CallForm ℕ ℕ ℕ call_layer_height expr_layer_height value_layer_height (layer.Own name args))) (omega arith)
 call_layer_is_high (layer.Of object name args) =
-    subst (λ (h : ℕ). 0 < h) (sym (fold-roll-CallForm ℕ ℕ ℕ ℕ call_layer_height expr_layer_height operation_layer_height value_layer_height (layer.Of object name args))) (omega arith)
+    subst (λ (h : ℕ). 0 < h) (sym (fold-roll-CallForm ℕ ℕ ℕ call_layer_height expr_layer_height value_layer_height (layer.Of object name args))) (omega arith)
 call_layer_is_high (layer.OfMember object at name args) =
-    subst (λ (h : ℕ). 0 < h) (sym (fold-roll-CallForm ℕ ℕ ℕ ℕ call_layer_height expr_layer_height operation_layer_height value_layer_height (layer.OfMember object at name args))) (omega arith)
+    subst (λ (h : ℕ). 0 < h) (sym (fold-roll-CallForm ℕ ℕ ℕ call_layer_height expr_layer_height value_layer_height (layer.OfMember object at name args))) (omega arith)
 
 call_is_high : (c : CallForm) → 0 < call_height c
 call_is_high c = subst (λ (d : CallForm). 0 < call_height d) (roll-out-CallForm c) (call_layer_is_high (out-CallForm c))

@@ -1,23 +1,22 @@
 -- What a read expression is: well placed, holding tightly enough, and on no more than the levels.
-use Rattle.std.proofs.Common.{◌≡◌, ℕ, suc, ◌+◌, ◌-◌, ◌<◌, ◌≤◌, Bool, true, ◌&&◌, nat_eq, nat_lt, List, [], ◌∷◌, map, refl, sym, ap, subst, ◌∙◌, arith}
-use Rattle.std.proofs.lemmas.Bool.Decides.{Decides-ltb, Decides-eqb}
+use Rattle.std.proofs.Common.{◌≡◌, ℕ, suc, ◌+◌, ◌-◌, ◌<◌, ◌≤◌, Bool, true, ◌&&◌, nat_le, nat_lt, List, [], ◌∷◌, map, refl, sym, ap, subst, ◌∙◌, arith}
+use Rattle.std.proofs.lemmas.Bool.Decides.{Decides-ltb, nat_tests}
 use Rattle.sdg_base.specs.declared.operator.BinOp.{BinOp}
 use Rattle.sdg_base.specs.declared.operator.UnOp.{UnOp}
 use Rattle.sdg_base.specs.declared.val.Num.{Num}
 use Rattle.java_tree.specs.declared.tree.Expr.{Expr}
 use Rattle.java_tree.specs.declared.tree.Expr.TheVariants as e
-use Rattle.java_tree.specs.declared.tree.Operation.{Operation}
 use Rattle.java_tree.specs.declared.tree.Value.{Value}
 use Rattle.java_tree.specs.declared.tree.CallForm.{CallForm}
 use Rattle.java_tree.specs.declared.tree.CallForm.TheVariants as call
 use Rattle.java_tree.specs.Levels.{operator_level}
-use Rattle.java_tree.specs.Placed.{Standing, holding, is_above, is_row, row_standing, standing_of, is_placed_value, is_placed_call}
+use Rattle.java_tree.specs.Placed.{Standing, holding, is_from, is_above, standing_of, is_placed_value, is_placed_call}
 use Rattle.java_tree.specs.Heights.{expr_height, value_height, call_height}
-use Rattle.java_parser.specs.Expressions.{operation, valued, row}
+use Rattle.java_parser.specs.Expressions.{valued}
 use Rattle.java_parser.specs.Deeper.{values_height}
 use Rattle.java_parser.proofs.Laws.{both}
-use Rattle.java_parser.proofs.TreeHeights.{conditional_height, unary_height, cast_height, number_height, truth_height, paren_height, maker_height, name_height, index_height, member_height, called_height, own_height, of_height, of_member_height, valued_height, values_height_first}
-use Rattle.java_parser.proofs.TreeStandings.{operation_standing_of, args_placed, conditional_standing, binary_standing, unary_standing, cast_standing, number_standing, truth_standing, paren_standing, maker_standing, name_standing, index_standing, member_standing, called_standing, own_placed, of_placed, of_member_placed, operated_standing, valued_placed}
+use Rattle.java_parser.proofs.TreeHeights.{conditional_height, binary_height, unary_height, cast_height, number_height, truth_height, paren_height, maker_height, name_height, index_height, member_height, called_height, own_height, of_height, of_member_height, valued_height, values_height_first}
+use Rattle.java_parser.proofs.TreeStandings.{args_placed, conditional_standing, binary_standing, unary_standing, cast_standing, number_standing, truth_standing, paren_standing, maker_standing, name_standing, index_standing, member_standing, called_standing, own_placed, of_placed, of_member_placed, valued_placed}
 
 -- The looseness is what is left to the tightest operators: an operand that may hold at a level has the looseness 11 less it.
 pub record Sound (levels looseness : ℕ) (x : Expr) : Type 0 where
@@ -51,6 +50,18 @@ and_true a b e f = rw (e, f) refl
 
 pub above : (level : ℕ) (s : Standing) → s.is_placed ≡ true → level < s.tightness → is_above level s ≡ true
 above level s placed lt = and_true s.is_placed (nat_lt level s.tightness) placed ((Decides-ltb level s.tightness).1 lt)
+
+is_le : (a b : ℕ) → a ≤ b → nat_le a b ≡ true
+is_le a b le = grind (arith, nat_tests)
+
+le_is : (a b : ℕ) → nat_le a b ≡ true → a ≤ b
+le_is a b h = grind (arith, nat_tests)
+
+pub from : (level : ℕ) (s : Standing) → s.is_placed ≡ true → level ≤ s.tightness → is_from level s ≡ true
+from level s placed le = and_true s.is_placed (nat_le level s.tightness) placed (is_le level s.tightness le)
+
+pub at_least : (level : ℕ) (s : Standing) → is_from level s ≡ true → (s.is_placed ≡ true) × (level ≤ s.tightness)
+at_least level s h = let p = both s.is_placed (nat_le level s.tightness) h in (p.0, le_is level s.tightness p.1)
 
 pub below : (level : ℕ) (s : Standing) → is_above level s ≡ true → (s.is_placed ≡ true) × (level < s.tightness)
 below level s h = let p = both s.is_placed (nat_lt level s.tightness) h in (p.0, (Decides-ltb level s.tightness).0 p.1)
@@ -129,30 +140,12 @@ module _ (n : ℕ) where
       let g = j.height in
       record { placed = and_true _ _ i.placed j.placed; height = rw (values_height_first v values) (omega arith) }
 
-  -- ---- rows of one level
-
-  -- the operand of an operation of this looseness
-  pub sound_operation : (looseness : ℕ) (op : BinOp) (right : Expr) → looseness ≤ 10 → operator_level op ≡ 10 - looseness → Sound n looseness right
-      → ((operation_standing_of (operation op right)).is_placed && nat_eq (operation_standing_of (operation op right)).tightness (10 - looseness)) ≡ true
-  sound_operation looseness op right le at i =
+  -- an operator of a level between what holds at least as tightly and what holds tighter
+  pub sound_binary : (looseness : ℕ) (op : BinOp) (left right : Expr) → looseness ≤ 10 → operator_level op ≡ 10 - looseness → Sound (suc n) (suc looseness) left → expr_height left ≤ n → Sound n looseness right
+      → Sound (suc n) (suc looseness) (e.Binary op left right)
+  sound_binary looseness op left right le at i low j =
       let t = i.tight in
-      rw (operated_standing op right) (and_true _ _ (above (operator_level op) (standing_of right) i.placed (omega arith)) ((Decides-eqb (operator_level op) (10 - looseness)).1 at))
-
--- the standing of a row whose operations have a level
-row_is : (level : ℕ) (first o : Standing) (more : List Standing) → is_above level first ≡ true → is_row level (o ∷ more) ≡ true → row_standing first (o ∷ more) ≡ holding level true
-row_is level first o more a r =
-    let p = both (o.is_placed && nat_eq o.tightness level) (is_row level more) r in
-    let q = both o.is_placed (nat_eq o.tightness level) p.0 in
-    let same : o.tightness ≡ level = (Decides-eqb o.tightness level).0 q.1 in
-    let P : ℕ → Type 0 = λ l. (is_above l first && is_row l (o ∷ more)) ≡ true in
-    let all : (is_above o.tightness first && is_row o.tightness (o ∷ more)) ≡ true = subst P (sym same) (and_true (is_above level first) (is_row level (o ∷ more)) a r) in
-    ap (λ (b : Bool). holding o.tightness b) all ∙ ap (λ (l : ℕ). holding l true) same
-
-pub sound_row : (n looseness : ℕ) (first : Expr) (operations : List Operation) → looseness ≤ 10 → Sound (suc n) looseness first → is_row (10 - looseness) (map operation_standing_of operations) ≡ true
-    → expr_height (row first operations) ≤ suc n → Sound (suc n) (suc looseness) (row first operations)
-sound_row n looseness first [] le i r h = looser i
-sound_row n looseness first (o ∷ more) le i r h =
-    let t = i.tight in
-    made (e.Binary first (o ∷ more)) (holding (10 - looseness) true) (expr_height (e.Binary first (o ∷ more)))
-    (binary_standing first (o ∷ more) ∙ row_is (10 - looseness) (standing_of first) (operation_standing_of o) (map operation_standing_of more) (above (10 - looseness) (standing_of first) i.placed (omega arith)) r)
-    refl refl (omega arith) h
+      let u = j.tight in
+      let h = j.height in
+      made (e.Binary op left right) (holding (operator_level op) (is_from (operator_level op) (standing_of left) && is_above (operator_level op) (standing_of right))) _ (binary_standing op left right) (binary_height op left right)
+      (and_true _ _ (from (operator_level op) (standing_of left) i.placed (omega (arith, at))) (above (operator_level op) (standing_of right) j.placed (omega (arith, at)))) (omega (arith, at)) (omega arith)

@@ -5,18 +5,17 @@ use Rattle.java_tree.specs.declared.token.Kind.TheVariants as k
 use Rattle.java_tree.specs.declared.token.Reserved.{Reserved}
 use Rattle.java_tree.specs.declared.token.Reserved.TheVariants as word
 use Rattle.java_tree.specs.declared.tree.Simple.{Simple}
-use Rattle.java_tree.specs.declared.tree.ForInit.{ForInit}
 use Rattle.java_tree.specs.declared.tree.Expr.{Expr}
 use Rattle.java_tree.specs.declared.tree.Value.{Value}
 use Rattle.java_tree.specs.declared.tree.BlockItem.{BlockItem}
 use Rattle.java_tree.specs.declared.tree.Stmt.{Stmt}
 use Rattle.java_tree.specs.declared.tree.Stmt.TheVariants as stmt
 use Rattle.java_tree.specs.Tokens.{Kinds, in_braces, simple_tokens, returned, item_step, statement_step, item_tokens}
-use Rattle.java_tree.specs.Placed.{Ending, all_of, is_placed_expr, is_placed_option, is_placed_simple, is_placed_init, item_placed, statement_ending, is_placed_item}
+use Rattle.java_tree.specs.Placed.{Ending, all_of, is_placed_expr, is_placed_option, is_placed_simple, is_placed_init, is_placed_header, item_placed, statement_ending, is_placed_item}
 use Rattle.java_tree.specs.Heights.{item_layer_height, statement_layer_height}
 use Rattle.java_parser.specs.declared.forms.StatementForm.{StatementForm}
 use Rattle.java_parser.specs.declared.forms.StatementForm.TheVariants as form
-use Rattle.java_parser.specs.declared.headers.ForHeader.{ForHeader}
+use Rattle.java_tree.specs.declared.tree.ForHeader.{ForHeader}
 use Rattle.java_parser.specs.Words.{Reading, begins}
 use Rattle.java_parser.specs.Members.{semicolon}
 use Rattle.java_parser.specs.Forms.{statement_form}
@@ -27,7 +26,7 @@ use Rattle.java_parser.proofs.StatementLayers as layers
 use Rattle.java_parser.proofs.Ends.{semicolon_ends}
 use Rattle.java_parser.proofs.SimpleHeads.{simple_begins}
 use Rattle.java_parser.proofs.SimpleLaws.{simple_is_high, simple_in_again}
-use Rattle.java_parser.proofs.HeaderLaws.{HeaderFits, header_tokens, header_again}
+use Rattle.java_parser.proofs.HeaderLaws.{HeaderFits, for_tokens, header_again}
 use Rattle.java_parser.proofs.BlockLaws.{Fits, Found, IsClosed, Reads, all_map, block_again, ending_of, flat, statement_height, statement_tokens}
 use Rattle.java_parser.proofs.PartLaws.{TestFits, returned_again, test_again, test_tokens}
 use Rattle.java_parser.proofs.StatementTakes.{regroup_alone, regroup_else, found_by}
@@ -170,22 +169,21 @@ module _ (n : ℕ) (statement : Kinds → Reading Stmt) (reads : Reads n stateme
       (then_is _ _ (test, statement_tokens body ++ rest) _ (test_again n test (statement_tokens body ++ rest) (placed.0, omega (arith, low)) tt)
       (then_is _ _ (body, rest) _ (reads.again body rest (record { placed = placed.1; low = omega (arith, low) }) (closed_as s rest _ se closed)) refl)))
 
-  again_for : (init : ForInit) (test : Option Expr) (update : List Simple) (body : Stmt) → ReadsAgain n statement (stmt.For init test update body)
+  again_for : (h : ForHeader) (body : Stmt) → ReadsAgain n statement (stmt.For h body)
   unfolding statement_of for_at
-  again_for init test update body rest fits closed =
-      let s = stmt.For init test update body in
-      let h : ForHeader = record { init = init; test = test; update = update } in
-      let se = layers.for_loop Bool Ending item_placed statement_ending init test update body in
-      let p = both (is_placed_init init) (is_placed_option is_placed_expr test && (all_of is_placed_simple update && (ending_of body).is_placed)) (placed_as s (suc n) _ se fits) in
-      let q = both (is_placed_option is_placed_expr test) (all_of is_placed_simple update && (ending_of body).is_placed) p.1 in
-      let r = both (all_of is_placed_simple update) (ending_of body).is_placed q.1 in
-      let low = low_as s (suc n) _ (layers.for_loop ℕ ℕ item_layer_height statement_layer_height init test update body) fits in
-      let header_fits : HeaderFits n h = record { init_placed = p.0; test_placed = q.0; update_placed = r.0; init_low = omega (arith, low); test_low = omega (arith, low); update_low = omega (arith, low) } in
-      let shape : (header_tokens h ++ statement_tokens body) ++ rest ≡ header_tokens h ++ (statement_tokens body ++ rest) = append_assoc (header_tokens h) (statement_tokens body) rest in
-      again_as n statement s rest _ form.For (layers.for_loop Kinds Kinds item_step statement_step init test update body) (word_is_form word.For form.For _ for_is)
+  again_for h body rest fits closed =
+      let s = stmt.For h body in
+      let se = layers.for_loop Bool Ending item_placed statement_ending h body in
+      let p = both (is_placed_header h) (ending_of body).is_placed (placed_as s (suc n) _ se fits) in
+      let q = both (is_placed_init h.init) (is_placed_option is_placed_expr h.test && all_of is_placed_simple h.update) p.0 in
+      let r = both (is_placed_option is_placed_expr h.test) (all_of is_placed_simple h.update) q.1 in
+      let low = low_as s (suc n) _ (layers.for_loop ℕ ℕ item_layer_height statement_layer_height h body) fits in
+      let header_fits : HeaderFits n h = record { init_placed = q.0; test_placed = r.0; update_placed = r.1; init_low = omega (arith, low); test_low = omega (arith, low); update_low = omega (arith, low) } in
+      let shape : (for_tokens h ++ statement_tokens body) ++ rest ≡ for_tokens h ++ (statement_tokens body ++ rest) = append_assoc (for_tokens h) (statement_tokens body) rest in
+      again_as n statement s rest _ form.For (layers.for_loop Kinds Kinds item_step statement_step h body) (word_is_form word.For form.For _ for_is)
       (ap (for_at n statement) shape
       ∙ then_is _ _ (h, statement_tokens body ++ rest) _ (header_again n h (statement_tokens body ++ rest) header_fits tt)
-      (then_is _ _ (body, rest) _ (reads.again body rest (record { placed = r.1; low = omega (arith, low) }) (closed_as s rest _ se closed)) refl))
+      (then_is _ _ (body, rest) _ (reads.again body rest (record { placed = p.1; low = omega (arith, low) }) (closed_as s rest _ se closed)) refl))
 
   again_break : ReadsAgain n statement stmt.Break
   unfolding statement_of after_jump
@@ -237,7 +235,7 @@ statement_is_high s =
       if_alone = λ test first. rw (layers.if_alone ℕ ℕ item_layer_height statement_layer_height test first) (omega arith);
       if_else = λ test first second. rw (layers.if_else ℕ ℕ item_layer_height statement_layer_height test first second) (omega arith);
       while_loop = λ test body. rw (layers.while_loop ℕ ℕ item_layer_height statement_layer_height test body) (omega arith);
-      for_loop = λ init test update body. rw (layers.for_loop ℕ ℕ item_layer_height statement_layer_height init test update body) (omega arith);
+      for_loop = λ header body. rw (layers.for_loop ℕ ℕ item_layer_height statement_layer_height header body) (omega arith);
       breaking = rw (layers.breaking ℕ ℕ item_layer_height statement_layer_height) (omega arith);
       continuing = rw (layers.continuing ℕ ℕ item_layer_height statement_layer_height) (omega arith);
       returning = λ v. rw (layers.returning ℕ ℕ item_layer_height statement_layer_height v) (omega arith);

@@ -2,7 +2,7 @@
 use Rattle.std.proofs.Common.{◌≡◌, List, map, Option, Some, None, sym, ap, subst, ◌∙◌}
 use Rattle.java_tree.specs.declared.tree.Local.{Local}
 use Rattle.java_tree.specs.declared.tree.Simple.{Simple}
-use Rattle.java_tree.specs.declared.tree.ForInit.{ForInit}
+use Rattle.java_tree.specs.declared.tree.ForHeader.{ForHeader}
 use Rattle.java_tree.specs.declared.tree.Expr.{Expr}
 use Rattle.java_tree.specs.declared.tree.Value.{Value}
 use Rattle.java_tree.specs.declared.tree.BlockItem.{BlockItem, out-BlockItem, roll-BlockItem, roll-out-BlockItem}
@@ -44,8 +44,8 @@ module _ (I S : Type 0) (item_step : BlockItem-F I S → I) (statement_step : St
   pub while_loop : (test : Expr) (body : Stmt) → of_statement (stmt.While test body) ≡ statement_step (layer.While test (of_statement body))
   while_loop test body = ap of_statement (sym (stmt.rolls-While test body)) ∙ fold-roll-Stmt I S item_step statement_step (layer.While test body)
 
-  pub for_loop : (init : ForInit) (test : Option Expr) (update : List Simple) (body : Stmt) → of_statement (stmt.For init test update body) ≡ statement_step (layer.For init test update (of_statement body))
-  for_loop init test update body = ap of_statement (sym (stmt.rolls-For init test update body)) ∙ fold-roll-Stmt I S item_step statement_step (layer.For init test update body)
+  pub for_loop : (header : ForHeader) (body : Stmt) → of_statement (stmt.For header body) ≡ statement_step (layer.For header (of_statement body))
+  for_loop header body = ap of_statement (sym (stmt.rolls-For header body)) ∙ fold-roll-Stmt I S item_step statement_step (layer.For header body)
 
   pub breaking : of_statement stmt.Break ≡ statement_step layer.Break
   breaking = ap of_statement (sym stmt.rolls-Break) ∙ fold-roll-Stmt I S item_step statement_step layer.Break
@@ -64,7 +64,7 @@ pub record EachStatement (P : Stmt → Type 0) : Type 0 where
   pub if_alone : (test : Expr) (first : Stmt) → P (stmt.If test first None)
   pub if_else : (test : Expr) (first second : Stmt) → P (stmt.If test first (Some second))
   pub while_loop : (test : Expr) (body : Stmt) → P (stmt.While test body)
-  pub for_loop : (init : ForInit) (test : Option Expr) (update : List Simple) (body : Stmt) → P (stmt.For init test update body)
+  pub for_loop : (header : ForHeader) (body : Stmt) → P (stmt.For header body)
   pub breaking : P stmt.Break
   pub continuing : P stmt.Continue
   pub returning : (v : Option Value) → P (stmt.Return v)
@@ -76,7 +76,7 @@ layer_cases P each (layer.Simple x) = subst P (sym (stmt.rolls-Simple x)) (each.
 layer_cases P each (layer.If test first None) = subst P (sym (stmt.rolls-If test first None)) (each.if_alone test first)
 layer_cases P each (layer.If test first (Some second)) = subst P (sym (stmt.rolls-If test first (Some second))) (each.if_else test first second)
 layer_cases P each (layer.While test body) = subst P (sym (stmt.rolls-While test body)) (each.while_loop test body)
-layer_cases P each (layer.For init test update body) = subst P (sym (stmt.rolls-For init test update body)) (each.for_loop init test update body)
+layer_cases P each (layer.For header body) = subst P (sym (stmt.rolls-For header body)) (each.for_loop header body)
 layer_cases P each layer.Break = subst P (sym stmt.rolls-Break) each.breaking
 layer_cases P each layer.Continue = subst P (sym stmt.rolls-Continue) each.continuing
 layer_cases P each (layer.Return v) = subst P (sym (stmt.rolls-Return v)) (each.returning v)

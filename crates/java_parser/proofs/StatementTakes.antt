@@ -21,7 +21,7 @@ use Rattle.java_parser.proofs.Laws.{bind_ok, same_Ok, chosen, after_takes}
 use Rattle.java_parser.proofs.StatementLayers.{of_item, of_statement, local_item, statement_item, EachStatement, statement_cases, item_cases}
 use Rattle.java_parser.proofs.StatementLayers as layers
 use Rattle.java_parser.proofs.SimpleLaws.{simple_in_takes, simple_in_keeps}
-use Rattle.java_parser.proofs.HeaderLaws.{header_tokens, header_takes, header_keeps}
+use Rattle.java_parser.proofs.HeaderLaws.{for_tokens, header_takes, header_keeps}
 use Rattle.java_parser.proofs.BlockLaws.{Fits, Found, IsClosed, Reads, all_map, block_keeps, block_takes, ending_of, flat, statement_height, statement_tokens, true_and}
 use Rattle.java_parser.proofs.PartLaws.{TestFits, returned_keeps, returned_takes, test_keeps, test_takes, test_tokens}
 
@@ -149,10 +149,10 @@ module _ (n : ℕ) (statement : Kinds → Reading Stmt) (reads : Reads n stateme
       let h = a.0.0 in
       let fits = header_keeps n ks a.0 a.1 in
       let body = reads.found a.0.1 b.0 b.1 in
-      given_found (suc n) ks (stmt.For h.init h.test h.update b.0.0, b.0.1) x b.2
-      (found_of (suc n) ks (stmt.For h.init h.test h.update b.0.0) b.0.1 _ _ _ (layers.for_loop Kinds Kinds item_step statement_step h.init h.test h.update b.0.0) (layers.for_loop Bool Ending item_placed statement_ending h.init h.test h.update b.0.0) (layers.for_loop ℕ ℕ item_layer_height statement_layer_height h.init h.test h.update b.0.0)
-      (header_takes n ks a.0 a.1 ∙ ap (λ (t : Kinds). header_tokens h ++ t) body.tokens ∙ sym (append_assoc (header_tokens h) (statement_tokens b.0.0) b.0.1))
-      (true_and _ _ fits.init_placed (true_and _ _ fits.test_placed (true_and _ _ fits.update_placed body.fits.placed)))
+      given_found (suc n) ks (stmt.For h b.0.0, b.0.1) x b.2
+      (found_of (suc n) ks (stmt.For h b.0.0) b.0.1 _ _ _ (layers.for_loop Kinds Kinds item_step statement_step h b.0.0) (layers.for_loop Bool Ending item_placed statement_ending h b.0.0) (layers.for_loop ℕ ℕ item_layer_height statement_layer_height h b.0.0)
+      (header_takes n ks a.0 a.1 ∙ ap (λ (t : Kinds). for_tokens h ++ t) body.tokens ∙ sym (append_assoc (for_tokens h) (statement_tokens b.0.0) b.0.1))
+      (true_and _ _ (true_and _ _ fits.init_placed (true_and _ _ fits.test_placed fits.update_placed)) body.fits.placed)
       (omega (arith, fits.init_low, fits.test_low, fits.update_low, body.fits.low)) body.is_closed)
 
   pub found_empty : (ks : Kinds) (x : Stmt × Kinds) → statement_of form.Empty n statement ks ≡ Ok x → Found (suc n) ks x.0 x.1

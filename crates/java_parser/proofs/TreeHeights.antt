@@ -5,70 +5,64 @@ use Rattle.sdg_base.specs.declared.operator.UnOp.{UnOp}
 use Rattle.sdg_base.specs.declared.val.Num.{Num}
 use Rattle.java_tree.specs.declared.tree.Expr.{Expr}
 use Rattle.java_tree.specs.declared.tree.Expr.TheVariants as e
-use Rattle.java_tree.specs.declared.tree.Operation.{Operation}
 use Rattle.java_tree.specs.declared.tree.Value.{Value}
 use Rattle.java_tree.specs.declared.tree.CallForm.{CallForm}
 use Rattle.java_tree.specs.declared.tree.CallForm.TheVariants as call
-use Rattle.java_tree.specs.Heights.{greatest, row_height, expr_height, value_height, call_height, call_layer_height, expr_layer_height, operation_layer_height, value_layer_height}
-use Rattle.java_parser.specs.Expressions.{operation, valued, row}
-use Rattle.java_parser.specs.Deeper.{values_height, operation_height}
+use Rattle.java_tree.specs.Heights.{greatest, expr_height, value_height, call_height, call_layer_height, expr_layer_height, value_layer_height}
+use Rattle.java_parser.specs.Expressions.{valued}
+use Rattle.java_parser.specs.Deeper.{values_height}
 use Rattle.java_parser.proofs.TreeLayers as layer
 
 pub conditional_height : (test first second : Expr) → expr_height (e.Conditional test first second) ≡ suc (max (expr_height test) (max (expr_height first) (expr_height second)))
-conditional_height test first second = layer.conditional ℕ ℕ ℕ ℕ call_layer_height expr_layer_height operation_layer_height value_layer_height test first second
+conditional_height test first second = layer.conditional ℕ ℕ ℕ call_layer_height expr_layer_height value_layer_height test first second
 
-pub binary_height : (first : Expr) (operations : List Operation) → expr_height (e.Binary first operations) ≡ row_height (expr_height first) (map operation_height operations)
-unfolding operation_height
-binary_height first operations = layer.binary ℕ ℕ ℕ ℕ call_layer_height expr_layer_height operation_layer_height value_layer_height first operations
+pub binary_height : (op : BinOp) (left right : Expr) → expr_height (e.Binary op left right) ≡ suc (max (expr_height left) (expr_height right))
+binary_height op left right = layer.binary ℕ ℕ ℕ call_layer_height expr_layer_height value_layer_height op left right
 
 pub unary_height : (op : UnOp) (x : Expr) → expr_height (e.Unary op x) ≡ suc (expr_height x)
-unary_height op x = layer.unary ℕ ℕ ℕ ℕ call_layer_height expr_layer_height operation_layer_height value_layer_height op x
+unary_height op x = layer.unary ℕ ℕ ℕ call_layer_height expr_layer_height value_layer_height op x
 
 pub cast_height : (to : Num) (x : Expr) → expr_height (e.Cast to x) ≡ suc (expr_height x)
-cast_height to x = layer.cast ℕ ℕ ℕ ℕ call_layer_height expr_layer_height operation_layer_height value_layer_height to x
+cast_height to x = layer.cast ℕ ℕ ℕ call_layer_height expr_layer_height value_layer_height to x
 
 pub number_height : (digits : ℕ) (decimal long : Bool) → expr_height (e.Number digits decimal long) ≡ 1
-number_height digits decimal long = layer.number ℕ ℕ ℕ ℕ call_layer_height expr_layer_height operation_layer_height value_layer_height digits decimal long
+number_height digits decimal long = layer.number ℕ ℕ ℕ call_layer_height expr_layer_height value_layer_height digits decimal long
 
 pub truth_height : (value : Bool) → expr_height (e.Bool value) ≡ 1
-truth_height value = layer.truth ℕ ℕ ℕ ℕ call_layer_height expr_layer_height operation_layer_height value_layer_height value
+truth_height value = layer.truth ℕ ℕ ℕ call_layer_height expr_layer_height value_layer_height value
 
 pub paren_height : (x : Expr) → expr_height (e.Paren x) ≡ suc (expr_height x)
-paren_height x = layer.paren ℕ ℕ ℕ ℕ call_layer_height expr_layer_height operation_layer_height value_layer_height x
+paren_height x = layer.paren ℕ ℕ ℕ call_layer_height expr_layer_height value_layer_height x
 
 pub maker_height : (name : List ℕ) (x : Expr) → expr_height (e.New name x) ≡ suc (expr_height x)
-maker_height name x = layer.maker ℕ ℕ ℕ ℕ call_layer_height expr_layer_height operation_layer_height value_layer_height name x
+maker_height name x = layer.maker ℕ ℕ ℕ call_layer_height expr_layer_height value_layer_height name x
 
 pub name_height : (name : List ℕ) → expr_height (e.Name name) ≡ 1
-name_height name = layer.name ℕ ℕ ℕ ℕ call_layer_height expr_layer_height operation_layer_height value_layer_height name
+name_height name = layer.name ℕ ℕ ℕ call_layer_height expr_layer_height value_layer_height name
 
 pub index_height : (name : List ℕ) (x : Expr) → expr_height (e.Index name x) ≡ suc (expr_height x)
-index_height name x = layer.index ℕ ℕ ℕ ℕ call_layer_height expr_layer_height operation_layer_height value_layer_height name x
+index_height name x = layer.index ℕ ℕ ℕ call_layer_height expr_layer_height value_layer_height name x
 
 pub member_height : (object name : List ℕ) → expr_height (e.Member object name) ≡ 1
-member_height object name = layer.member ℕ ℕ ℕ ℕ call_layer_height expr_layer_height operation_layer_height value_layer_height object name
+member_height object name = layer.member ℕ ℕ ℕ call_layer_height expr_layer_height value_layer_height object name
 
 pub called_height : (call : CallForm) → expr_height (e.Call call) ≡ call_height call
-called_height call = layer.called ℕ ℕ ℕ ℕ call_layer_height expr_layer_height operation_layer_height value_layer_height call
+called_height call = layer.called ℕ ℕ ℕ call_layer_height expr_layer_height value_layer_height call
 
 pub own_height : (name : List ℕ) (args : List Value) → call_height (call.Own name args) ≡ suc (values_height args)
 unfolding values_height
-own_height name args = layer.own ℕ ℕ ℕ ℕ call_layer_height expr_layer_height operation_layer_height value_layer_height name args
+own_height name args = layer.own ℕ ℕ ℕ call_layer_height expr_layer_height value_layer_height name args
 
 pub of_height : (object name : List ℕ) (args : List Value) → call_height (call.Of object name args) ≡ suc (values_height args)
 unfolding values_height
-of_height object name args = layer.of ℕ ℕ ℕ ℕ call_layer_height expr_layer_height operation_layer_height value_layer_height object name args
+of_height object name args = layer.of ℕ ℕ ℕ call_layer_height expr_layer_height value_layer_height object name args
 
 pub of_member_height : (object : List ℕ) (at : Expr) (name : List ℕ) (args : List Value) → call_height (call.OfMember object at name args) ≡ suc (max (expr_height at) (values_height args))
 unfolding values_height
-of_member_height object at name args = layer.of_member ℕ ℕ ℕ ℕ call_layer_height expr_layer_height operation_layer_height value_layer_height object at name args
-
-pub operated_height : (op : BinOp) (right : Expr) → operation_height (operation op right) ≡ expr_height right
-unfolding operation_height
-operated_height op right = layer.operated ℕ ℕ ℕ ℕ call_layer_height expr_layer_height operation_layer_height value_layer_height op right
+of_member_height object at name args = layer.of_member ℕ ℕ ℕ call_layer_height expr_layer_height value_layer_height object at name args
 
 pub valued_height : (is_global : Bool) (x : Expr) → value_height (valued is_global x) ≡ expr_height x
-valued_height is_global x = layer.value ℕ ℕ ℕ ℕ call_layer_height expr_layer_height operation_layer_height value_layer_height is_global x
+valued_height is_global x = layer.value ℕ ℕ ℕ call_layer_height expr_layer_height value_layer_height is_global x
 
 -- the height of an expression that is a call
 pub own_call_height : (name : List ℕ) (args : List Value) → expr_height (e.Call (call.Own name args)) ≡ suc (values_height args)
@@ -105,21 +99,3 @@ values_height_first v values = refl
 pub values_height_none : values_height [] ≡ 0
 unfolding values_height
 values_height_none = refl
-
-pub row_height_more : (h : ℕ) (hs : List ℕ) (r : ℕ) → row_height h (hs ++ r ∷ []) ≡ suc (max (row_height h hs) r)
-row_height_more h [] r = refl
-row_height_more h (x ∷ hs) r = row_height_more (suc (max h x)) hs r
-
--- one more operation in a row
-pub row_more_height : (first : Expr) (operations : List Operation) (op : BinOp) (right : Expr)
-    → expr_height (row first (operations ++ operation op right ∷ [])) ≡ suc (max (expr_height (row first operations)) (expr_height right))
-row_more_height first [] op right =
-    binary_height first (operation op right ∷ []) ∙ ap (λ (r : ℕ). suc (max (expr_height first) r)) (operated_height op right)
-row_more_height first (o ∷ more) op right =
-    let h = expr_height first in
-    let all = map operation_height (o ∷ more) in
-    binary_height first (o ∷ (more ++ operation op right ∷ []))
-    ∙ ap (row_height h) (map_more operation_height (o ∷ more) (operation op right))
-    ∙ row_height_more h all (operation_height (operation op right))
-    ∙ ap (λ (r : ℕ). suc (max (row_height h all) r)) (operated_height op right)
-    ∙ ap (λ (m : ℕ). suc (max m (expr_height right))) (sym (binary_height first (o ∷ more)))

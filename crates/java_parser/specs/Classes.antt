@@ -2,6 +2,7 @@
 use Rattle.std.specs.Prelude.{ℕ, Bool, true, false, ◌&&◌, if◌then◌else◌, List, [], ◌∷◌, is_some, Result, Ok}
 use Rattle.java_tree.specs.declared.token.Kind.TheVariants as k
 use Rattle.java_tree.specs.declared.token.Reserved.TheVariants as word
+use Rattle.java_tree.specs.declared.token.Place.{Place}
 use Rattle.java_tree.specs.declared.tree.Class.{Class}
 use Rattle.java_tree.specs.declared.tree.Member.{Member}
 use Rattle.java_tree.specs.declared.tree.Member.TheVariants as member
@@ -50,9 +51,9 @@ abbrev pub is_empty : Kinds → Bool
 is_empty [] = true
 is_empty (x ∷ rest) = false
 
--- all of the tokens
-unfoldable pub class_at : ℕ → Kinds → Result Class Fault
-class_at n rest = do
+-- all of the tokens, which begin at these places
+unfoldable pub class_at : ℕ → List Place → Kinds → Result Class Fault
+class_at n places rest = do
   named ← package_at rest
   imports ← imports_at named.1
   modifiers ← modifiers_at imports.1
@@ -61,7 +62,7 @@ class_at n rest = do
   rest ← after (open_brace ∷ []) name.1
   members ← members_at n rest
   rest ← after (close_brace ∷ []) members.1
-  if is_empty rest then Ok (record { «package» = named.0; imports = imports.0; modifiers = modifiers.0; name = name.0; members = members.0 }) else refused rest
+  if is_empty rest then Ok (record { «package» = named.0; imports = imports.0; modifiers = modifiers.0; name = name.0; members = members.0; places = places }) else refused rest
 
 -- A method's body is the first of the levels that there may be.
 abbrev pub body_levels : ℕ

@@ -6,9 +6,7 @@ use denote.Ref.{Bor}
 use Rattle.java_tree.specs.declared.token.Token.{Token}
 use Rattle.java_tree.specs.declared.tree.Expr.{Expr}
 use Rattle.java_tree.specs.declared.tree.Value.{Value}
-use Rattle.java_tree.specs.declared.tree.Operation.{Operation}
-use Rattle.java_tree.specs.declared.tree.CallForm.TheFolds.{fold-Operation}
-use Rattle.java_tree.specs.Heights.{greatest, expr_height, value_height, call_layer_height, expr_layer_height, operation_layer_height, value_layer_height}
+use Rattle.java_tree.specs.Heights.{greatest, expr_height, value_height}
 use Rattle.java_parser.specs.declared.error.Refusal.{Refusal}
 use Rattle.java_parser.specs.Words.{Reading, Gives, kinds}
 use Rattle.java_parser.specs.Expressions.{read_at}
@@ -19,9 +17,6 @@ Found A = A × ℕ × Bor (List Token)
 
 unfoldable pub values_height : List Value → ℕ
 values_height values = greatest (map value_height values)
-
-unfoldable pub operation_height : Operation → ℕ
-operation_height = fold-Operation ℕ ℕ ℕ ℕ call_layer_height expr_layer_height operation_layer_height value_layer_height
 
 abbrev pub Finds : {A : Type 0} → Result (Found A) Refusal → Reading A → Type 0
 Finds r read = Gives (λ x. (x.0, kinds x.2.now)) r read

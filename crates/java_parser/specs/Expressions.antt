@@ -16,7 +16,6 @@ use Rattle.java_tree.specs.declared.token.Symbol.{Symbol}
 use Rattle.java_tree.specs.declared.token.Symbol.TheVariants as symbol
 use Rattle.java_tree.specs.declared.tree.Expr.{Expr, out-Expr}
 use Rattle.java_tree.specs.declared.tree.Expr.TheVariants as e
-use Rattle.java_tree.specs.declared.tree.Operation.{Operation, roll-Operation}
 use Rattle.java_tree.specs.declared.tree.Value.{Value, roll-Value}
 use Rattle.java_tree.specs.declared.tree.CallForm.{CallForm}
 use Rattle.java_tree.specs.declared.tree.CallForm.TheVariants as call
@@ -143,13 +142,6 @@ abbrev pub when_some : {A B : Type 0} → Option A → (A → B) → B → B
 when_some None f other = other
 when_some (Some x) f other = f x
 
-abbrev pub row : Expr → List Operation → Expr
-row first [] = first
-row first (o ∷ more) = e.Binary first (o ∷ more)
-
-abbrev pub operation : BinOp → Expr → Operation
-operation op right = roll-Operation (record { op = op; right = right })
-
 abbrev pub valued : Bool → Expr → Value
 valued is_global expr = roll-Value (record { is_global = is_global; expr = expr })
 
@@ -275,19 +267,19 @@ module _ (deeper : ℕ → Kinds → Reading Expr) where
 
 -- ---- rows and conditionals, whose parts may stand on this many levels
 module _ (deeper : ℕ → Kinds → Reading Expr) (levels : ℕ) where
-  -- Operations of one level, behind those that were found. The first number is the looseness of the operands, and the second
-  -- bounds the turns.
-  unfoldable pub row_from : ℕ → ℕ → Expr → List Operation → Kinds → Reading Expr
-  row_from looseness zero first found rest = refused rest
-  row_from looseness (suc n) first found rest =
+  -- Operators of one level, with what was read so far as the left operand of the next. The first number is the looseness of
+  -- the right operands, and the second bounds the turns.
+  unfoldable pub row_from : ℕ → ℕ → Expr → Kinds → Reading Expr
+  row_from looseness zero left rest = refused rest
+  row_from looseness (suc n) left rest =
       when_some (operator_at (10 - looseness) rest)
-      (λ op. if nat_lt levels (expr_height (row first found)) then too_deep rest else (do
+      (λ op. if nat_lt levels (expr_height left) then too_deep rest else (do
         right ← deeper looseness (tail rest)
-        row_from looseness n first (found ++ operation op right.0 ∷ []) right.1))
-      (Ok (row first found, rest))
+        row_from looseness n (e.Binary op left right.0) right.1))
+      (Ok (left, rest))
 
   unfoldable pub row_in : ℕ → Expr → Kinds → Reading Expr
-  row_in looseness first rest = row_from looseness (length rest) first [] rest
+  row_in looseness first rest = row_from looseness (length rest) first rest
 
   unfoldable pub conditional_in : Expr → Kinds → Reading Expr
   conditional_in test rest =
@@ -330,7 +322,7 @@ abbrev pub args_at : ℕ → Kinds → Reading (List Value)
 args_at levels = args_in (read_at levels)
 
 -- of an expression that must be a call
-abbrev pub call_of : Expr-F CallForm Expr Operation Value → Kinds → Reading CallForm
+abbrev pub call_of : Expr-F CallForm Expr Value → Kinds → Reading CallForm
 call_of (layer.Call c) rest = Ok (c, rest)
 call_of _ rest = refused rest
 

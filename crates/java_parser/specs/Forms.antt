@@ -6,7 +6,9 @@ use Rattle.java_tree.specs.declared.token.Symbol.{Symbol}
 use Rattle.java_tree.specs.declared.token.Symbol.TheVariants as symbol
 use Rattle.java_tree.specs.declared.tree.AssignOp.TheVariants as assigned
 use Rattle.java_tree.specs.Tokens.{Kinds}
-use Rattle.std.specs.Prelude.{◌∷◌}
+use Rattle.std.specs.Prelude.{◌∷◌, if◌then◌else◌}
+use denote.Enum.Bare.{sameb}
+use Rattle.java_tree.specs.contracts.token.Reserved.{the_type as reserved}
 use Rattle.java_parser.specs.declared.forms.SimpleForm.{SimpleForm}
 use Rattle.java_parser.specs.declared.forms.SimpleForm.TheVariants as simple
 use Rattle.java_parser.specs.declared.forms.StatementForm.{StatementForm}
@@ -44,13 +46,14 @@ simple_form _ = simple.Call
 -- which statement the first token begins
 
 abbrev pub word_form : Reserved → StatementForm
-word_form word.If = statement.If
-word_form word.While = statement.While
-word_form word.For = statement.For
-word_form word.Break = statement.Break
-word_form word.Continue = statement.Continue
-word_form word.Return = statement.Return
-word_form _ = statement.Simple
+word_form w =
+    if sameb reserved w word.If then statement.If
+    else if sameb reserved w word.While then statement.While
+    else if sameb reserved w word.For then statement.For
+    else if sameb reserved w word.Break then statement.Break
+    else if sameb reserved w word.Continue then statement.Continue
+    else if sameb reserved w word.Return then statement.Return
+    else statement.Simple
 
 abbrev pub symbol_form : Symbol → StatementForm
 symbol_form symbol.OpenBrace = statement.Block

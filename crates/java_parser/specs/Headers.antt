@@ -7,7 +7,7 @@ use Rattle.java_tree.specs.declared.tree.ForInit.{ForInit}
 use Rattle.java_tree.specs.declared.tree.ForInit.TheVariants as for_init
 use Rattle.java_tree.specs.declared.tree.Expr.{Expr}
 use Rattle.java_tree.specs.Tokens.{Kinds}
-use Rattle.java_parser.specs.declared.headers.ForHeader.{ForHeader}
+use Rattle.java_tree.specs.declared.tree.ForHeader.{ForHeader}
 use Rattle.java_parser.specs.Words.{◌>>=◌, Reading, begins, after}
 use Rattle.java_parser.specs.Members.{semicolon, open_paren, close_paren}
 use Rattle.java_parser.specs.Expressions.{expr_at}

@@ -94,7 +94,7 @@ unfoldable pub for_at : ℕ → (Kinds → Reading Stmt) → Kinds → Reading S
 for_at n statement rest = do
   header ← header_at n rest
   body ← statement header.1
-  Ok (stmt.For header.0.init header.0.test header.0.update body.0, body.1)
+  Ok (stmt.For header.0 body.0, body.1)
 
 -- what follows this word and a semicolon
 unfoldable pub after_jump : Reserved → Kinds → Result Kinds Fault

@@ -1,6 +1,6 @@
 //! The rules for methods, members and the class.
 
-ghost use Rattle.std.specs.Prelude.{◌≡◌};
+ghost use Rattle.std.specs.Prelude.{◌≡◌, map, IfOk};
 ghost use Rattle.java_parser.specs.Words.{Gives, kinds};
 ghost use Rattle.java_parser.specs.Members.{behind};
 ghost use Rattle.java_parser.specs.Classes as spec;
@@ -12,9 +12,9 @@ use crate::members::{
 use crate::simples::begins_name;
 use crate::statements::{block, has_more};
 use crate::words::{Wanted, after, begins, name};
-use java_tree::{Class, Member, Method, Reserved, Symbol, Token};
+use java_tree::{Class, Member, Method, Place, Reserved, Symbol, Token};
 use sqlite_items::Items;
-use std::alloc::Global;
+use std::alloc::{AllocError, Global};
 
 /// A name, and `=` behind it.
 #[tactic(auto, unfolding(crate::specs::Classes::initialises))]
@@ -118,11 +118,23 @@ fn members(
     Err(Refusal::NoClass { left: rest.len() })
 }
 
+/// Where each token begins.
+fn places(alloc: Global, tokens: &[Token]) -> Result<Items<Place>, AllocError>
+    ensures { IfOk result (λ all. all ≡ map (λ t. t.place) tokens.now) }
+{
+    let mut places = Items::from_vec(Vec::with_capacity(alloc, tokens.len())?);
+    for token in tokens {
+        places.push(token.place)?;
+    }
+    Ok(places)
+}
+
 /// The class that all of the tokens are, with this many levels inside the bodies of its methods.
 #[tactic(auto, unfolding(crate::specs::Classes::class_at))]
 pub(crate) fn class(alloc: Global, levels: usize, tokens: &[Token]) -> Result<Class, Refusal>
-    ensures { Gives (λ x. x) result (spec.class_at levels (kinds tokens.now)) }
+    ensures { Gives (λ x. x) result (spec.class_at levels (map (λ t. t.place) tokens.now) (kinds tokens.now)) }
 {
+    let places = places(alloc, tokens)?;
     let (package, rest) = package(alloc, tokens)?;
     let (imports, rest) = imports(alloc, rest)?;
     let (modifiers, rest) = modifiers(alloc, rest)?;
@@ -138,6 +150,7 @@ pub(crate) fn class(alloc: Global, levels: usize, tokens: &[Token]) -> Result<Cl
             modifiers,
             name,
             members,
+            places,
         }),
         _ => Err(Refusal::NoClass { left: rest.len() }),
     }

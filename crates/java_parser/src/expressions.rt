@@ -8,6 +8,7 @@ ghost use Rattle.java_parser.specs.Expressions as spec;
 ghost use Rattle.java_parser.specs.Deeper.{Reads, Finds, Measures, values_height};
 
 use crate::error::Refusal;
+use crate::lists::listed;
 use crate::members::optional;
 use crate::operands::{Opening, number_type_ahead, opening_of, tail};
 use crate::words::{Wanted, after, begins, name};
@@ -42,6 +43,20 @@ impl<F: Fn(Global, usize, usize, &[Token]) -> Result<Found<'_>, Refusal>> Rules<
         ensures measures { Measures expr_height self.now.levels result }
     {
         (self.expr)(self.alloc, self.levels, looseness, tokens)
+    }
+
+    /// What stands one level deeper, in a box.
+    pub(crate) fn boxed<'t>(
+        &self,
+        looseness: usize,
+        tokens: &'t [Token],
+    ) -> Result<(Boxed<Expr>, usize, &'t [Token]), Refusal>
+        requires { Reads self.now.levels (F.pre self.now.expr) (F.post self.now.expr) }
+        ensures finds { Finds result (spec.read_at self.now.levels looseness (kinds tokens.now)) }
+        ensures measures { Measures expr_height self.now.levels result }
+    {
+        let (x, spare, rest) = self.deeper(looseness, tokens)?;
+        Ok((Boxed::new(self.alloc, x)?, spare, rest))
     }
 
     /// An expression, with `@Global` before it or not.
@@ -105,14 +120,12 @@ impl<F: Fn(Global, usize, usize, &[Token]) -> Result<Found<'_>, Refusal>> Rules<
         ensures finds { Finds result (spec.values_in (spec.read_at self.now.levels) (kinds tokens.now)) }
         ensures measures { Measures values_height self.now.levels result }
     {
-        let mut values = Items::new(self.alloc);
         if begins(tokens, Wanted::Symbol(Symbol::CloseParen)) {
-            return Ok((values, self.levels, tokens));
+            return Ok((Items::new(self.alloc), self.levels, tokens));
         }
         let (first, first_spare, rest) = self.value(tokens)?;
-        values.push(first)?;
         let (others, least, rest) = self.other_values(rest)?;
-        values.append(others)?;
+        let values = listed(self.alloc, first, others)?;
         Ok((values, first_spare.min(least), rest))
     }
 
@@ -137,7 +150,8 @@ impl<F: Fn(Global, usize, usize, &[Token]) -> Result<Found<'_>, Refusal>> Rules<
         ensures measures { Measures expr_height (self.now.levels + 1) result }
     {
         let (args, spare, rest) = self.args(tokens)?;
-        Ok((Expr::Call(CallForm::Of(object, method, args)), spare, rest))
+        let call = Boxed::new(self.alloc, CallForm::Of(object, method, args))?;
+        Ok((Expr::Call(call), spare, rest))
     }
 
     /// What goes on after a name and a dot.
@@ -151,6 +165,7 @@ impl<F: Fn(Global, usize, usize, &[Token]) -> Result<Found<'_>, Refusal>> Rules<
         if begins(rest, Wanted::Symbol(Symbol::OpenParen)) {
             self.of(object, name, rest)
         } else {
+            let name = Boxed::new(self.alloc, name)?;
             Ok((Expr::Member(object, name), self.levels, rest))
         }
     }
@@ -160,7 +175,7 @@ impl<F: Fn(Global, usize, usize, &[Token]) -> Result<Found<'_>, Refusal>> Rules<
     fn of_member<'t>(
         &self,
         object: Name,
-        index: Expr,
+        index: Boxed<Expr>,
         index_spare: usize,
         tokens: &'t [Token],
     ) -> Result<Found<'t>, Refusal>
@@ -172,8 +187,7 @@ impl<F: Fn(Global, usize, usize, &[Token]) -> Result<Found<'_>, Refusal>> Rules<
         let rest = after(tokens, &[Wanted::Symbol(Symbol::Dot)])?;
         let (method, rest) = name(self.alloc, rest)?;
         let (args, spare, rest) = self.args(rest)?;
-        let index = Boxed::new(self.alloc, index)?;
-        let call = CallForm::OfMember(object, index, method, args);
+        let call = Boxed::new(self.alloc, CallForm::OfMember(object, index, method, args))?;
         Ok((Expr::Call(call), index_spare.min(spare), rest))
     }
 
@@ -184,16 +198,12 @@ impl<F: Fn(Global, usize, usize, &[Token]) -> Result<Found<'_>, Refusal>> Rules<
         ensures finds { Finds result (spec.index_in (spec.read_at self.now.levels) object (kinds tokens.now)) }
         ensures measures { Measures expr_height (self.now.levels + 1) result }
     {
-        let (index, spare, rest) = self.deeper(ALL_ROWS, tokens)?;
+        let (index, spare, rest) = self.boxed(ALL_ROWS, tokens)?;
         let rest = after(rest, &[Wanted::Symbol(Symbol::CloseBracket)])?;
         if begins(rest, Wanted::Symbol(Symbol::Dot)) {
             self.of_member(object, index, spare, rest)
         } else {
-            Ok((
-                Expr::Index(object, Boxed::new(self.alloc, index)?),
-                spare,
-                rest,
-            ))
+            Ok((Expr::Index(object, index), spare, rest))
         }
     }
 
@@ -205,7 +215,8 @@ impl<F: Fn(Global, usize, usize, &[Token]) -> Result<Found<'_>, Refusal>> Rules<
         ensures measures { Measures expr_height (self.now.levels + 1) result }
     {
         let (args, spare, rest) = self.args(tokens)?;
-        Ok((Expr::Call(CallForm::Own(method, args)), spare, rest))
+        let call = Boxed::new(self.alloc, CallForm::Own(method, args))?;
+        Ok((Expr::Call(call), spare, rest))
     }
 
     /// What goes on after a name.
@@ -245,12 +256,8 @@ impl<F: Fn(Global, usize, usize, &[Token]) -> Result<Found<'_>, Refusal>> Rules<
         ensures measures { Measures expr_height (self.now.levels + 1) result }
     {
         let rest = after(tail(tokens), &[Wanted::Symbol(Symbol::CloseParen)])?;
-        let (operand, spare, rest) = self.deeper(0, rest)?;
-        Ok((
-            Expr::Cast(to, Boxed::new(self.alloc, operand)?),
-            spare,
-            rest,
-        ))
+        let (operand, spare, rest) = self.boxed(0, rest)?;
+        Ok((Expr::Cast(to, operand), spare, rest))
     }
 
     /// An expression in parentheses, after the first.
@@ -260,9 +267,9 @@ impl<F: Fn(Global, usize, usize, &[Token]) -> Result<Found<'_>, Refusal>> Rules<
         ensures finds { Finds result (spec.inner_in (spec.read_at self.now.levels) (kinds tokens.now)) }
         ensures measures { Measures expr_height (self.now.levels + 1) result }
     {
-        let (inner, spare, rest) = self.deeper(ALL_ROWS, tokens)?;
+        let (inner, spare, rest) = self.boxed(ALL_ROWS, tokens)?;
         let rest = after(rest, &[Wanted::Symbol(Symbol::CloseParen)])?;
-        Ok((Expr::Paren(Boxed::new(self.alloc, inner)?), spare, rest))
+        Ok((Expr::Paren(inner), spare, rest))
     }
 
     /// What goes on after an opening parenthesis.
@@ -287,9 +294,9 @@ impl<F: Fn(Global, usize, usize, &[Token]) -> Result<Found<'_>, Refusal>> Rules<
     {
         let (class, rest) = name(self.alloc, tokens)?;
         let rest = after(rest, &[Wanted::Symbol(Symbol::OpenParen)])?;
-        let (size, spare, rest) = self.deeper(ALL_ROWS, rest)?;
+        let (size, spare, rest) = self.boxed(ALL_ROWS, rest)?;
         let rest = after(rest, &[Wanted::Symbol(Symbol::CloseParen)])?;
-        Ok((Expr::New(class, Boxed::new(self.alloc, size)?), spare, rest))
+        Ok((Expr::New(class, size), spare, rest))
     }
 
     /// The operand of a unary operator.
@@ -299,12 +306,8 @@ impl<F: Fn(Global, usize, usize, &[Token]) -> Result<Found<'_>, Refusal>> Rules<
         ensures finds { Finds result (spec.prefixed_in (spec.read_at self.now.levels) op (kinds tokens.now)) }
         ensures measures { Measures expr_height (self.now.levels + 1) result }
     {
-        let (operand, spare, rest) = self.deeper(0, tokens)?;
-        Ok((
-            Expr::Unary(op, Boxed::new(self.alloc, operand)?),
-            spare,
-            rest,
-        ))
+        let (operand, spare, rest) = self.boxed(0, tokens)?;
+        Ok((Expr::Unary(op, operand), spare, rest))
     }
 
     /// An operand, with what stands before it.

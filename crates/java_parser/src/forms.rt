@@ -96,14 +96,20 @@ pub(crate) fn simple_form(tokens: &[Token]) -> SimpleForm
 fn word_form(word: Reserved) -> StatementForm
     ensures { result ≡ spec.word_form word }
 {
-    match word {
-        Reserved::If => StatementForm::If,
-        Reserved::While => StatementForm::While,
-        Reserved::For => StatementForm::For,
-        Reserved::Break => StatementForm::Break,
-        Reserved::Continue => StatementForm::Continue,
-        Reserved::Return => StatementForm::Return,
-        _ => StatementForm::Simple,
+    if word == Reserved::If {
+        StatementForm::If
+    } else if word == Reserved::While {
+        StatementForm::While
+    } else if word == Reserved::For {
+        StatementForm::For
+    } else if word == Reserved::Break {
+        StatementForm::Break
+    } else if word == Reserved::Continue {
+        StatementForm::Continue
+    } else if word == Reserved::Return {
+        StatementForm::Return
+    } else {
+        StatementForm::Simple
     }
 }
 

@@ -8,17 +8,9 @@ use crate::error::Refusal;
 use crate::rows::expr;
 use crate::simples::{local, local_ahead, simples};
 use crate::words::{Wanted, after, begins};
-use java_tree::{Expr, ForInit, Reserved, Simple, Symbol, Token};
+use java_tree::{Expr, ForHeader, ForInit, Reserved, Simple, Symbol, Token};
 use sqlite_items::Items;
 use std::alloc::Global;
-
-/// What stands between the parentheses of a `for`.
-#[derive(Drop)]
-pub(crate) struct ForHeader {
-    pub init: ForInit,
-    pub test: Option<Expr>,
-    pub update: Items<Simple>,
-}
 
 #[tactic(auto, unfolding(crate::specs::Headers::init_at))]
 fn for_init(alloc: Global, levels: usize, tokens: &[Token]) -> Result<(ForInit, &[Token]), Refusal>

@@ -6,6 +6,7 @@ mod error;
 mod expressions;
 mod forms;
 mod headers;
+mod lists;
 mod members;
 mod operands;
 mod parsing;
@@ -16,10 +17,3 @@ mod words;
 
 pub use error::ParseError;
 pub use parsing::parse;
-
-#[cfg(test)]
-mod expression_tests;
-#[cfg(test)]
-mod test_tokens;
-#[cfg(test)]
-mod tests;

@@ -6,6 +6,7 @@ ghost use Rattle.java_parser.specs.Words.{Gives, kinds, kind_of, begins};
 ghost use Rattle.java_parser.specs.Members as spec;
 
 use crate::error::Refusal;
+use crate::lists::listed;
 use crate::words::{Wanted, after, begins, name};
 use java_tree::{
     Field, FieldModifier, Import, Kind, Modifier, Param, QualifiedName, Reserved, ResultType,
@@ -452,13 +453,10 @@ fn other_params(alloc: Global, tokens: &[Token]) -> Result<(Items<Param>, &[Toke
 pub(crate) fn params(alloc: Global, tokens: &[Token]) -> Result<(Items<Param>, &[Token]), Refusal>
     ensures { Gives (λ x. (x.0, kinds x.1.now)) result (spec.params_at (kinds tokens.now)) }
 {
-    let mut params = Items::new(alloc);
     if begins(tokens, Wanted::Symbol(Symbol::CloseParen)) {
-        return Ok((params, tokens));
+        return Ok((Items::new(alloc), tokens));
     }
     let (first, rest) = param(alloc, tokens)?;
-    params.push(first)?;
     let (others, rest) = other_params(alloc, rest)?;
-    params.append(others)?;
-    Ok((params, rest))
+    Ok((listed(alloc, first, others)?, rest))
 }

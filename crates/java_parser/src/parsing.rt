@@ -1,6 +1,6 @@
 //! The tree of all of the tokens.
 
-ghost use Rattle.std.specs.Prelude.{◌≡◌, ◌≤◌, ◌⊎◌, map, IfOk};
+ghost use Rattle.std.specs.Prelude.{◌≡◌, ◌≤◌, ◌⊎◌, IfOk};
 ghost use Rattle.java_tree.specs.declared.token.Place.{Place};
 ghost use Rattle.java_tree.specs.declared.tree.Class.{Class};
 ghost use Rattle.java_tree.specs.Tokens.{tokens_of};
@@ -34,10 +34,10 @@ fn error_of(refusal: Refusal) -> ParseError
 /// levels of statements and expressions inside one another. The time is linear in the number of tokens
 /// and in the bytes of their names. `Memory` says that an allocation failed.
 pub fn parse(alloc: Global, tokens: &Tokens) -> Result<Class, ParseError>
-    // The tree has these tokens, and stands for them as the grammar says.
-    ensures found { IfOk result (λ c. (tokens_of c ≡ map (λ t. t.kind) tokens.now.list) × IsWellPlaced c × (height c ≤ max_levels)) }
+    // The tree has these tokens at their places, and stands for them as the grammar says.
+    ensures found { IfOk result (λ c. (tokens_of c ≡ tokens.now.list) × IsWellPlaced c × (height c ≤ max_levels)) }
     // Such a tree is given, unless memory runs out.
-    ensures only { (c : Class) → tokens_of c ≡ map (λ t. t.kind) tokens.now.list → IsWellPlaced c → height c ≤ max_levels → (result ≡ Ok c) ⊎ (result ≡ Err ParseError.Memory) }
+    ensures only { (c : Class) → tokens_of c ≡ tokens.now.list → IsWellPlaced c → height c ≤ max_levels → (result ≡ Ok c) ⊎ (result ≡ Err ParseError.Memory) }
     // An error names the first place of a text, whichever token is wrong.
     ensures place { (place : Place) → result ≡ Err (ParseError.NoClass place) → place ≡ record { line = 1; column = 1 } }
 {

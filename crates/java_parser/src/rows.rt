@@ -1,6 +1,7 @@
 //! Rows of operators, conditionals, and expressions as a whole.
 
 ghost use Rattle.std.specs.Prelude.{◌≡◌, ◌+◌, IfOk};
+ghost use Rattle.java_tree.specs.declared.tree.Expr.TheVariants as e;
 ghost use Rattle.java_tree.specs.Heights.{expr_height};
 ghost use Rattle.java_parser.specs.Words.{Gives, kinds};
 ghost use Rattle.java_parser.specs.Expressions as spec;
@@ -10,22 +11,23 @@ use crate::error::Refusal;
 use crate::expressions::{ALL_ROWS, Found, Rules};
 use crate::operands::{begins_expr, operator_at, tail};
 use crate::words::{Wanted, after, begins};
-use java_tree::{CallForm, Expr, Operation, Symbol, Token, Value};
-use sqlite_items::{Boxed, Items};
+use java_tree::{CallForm, Expr, Symbol, Token, Value};
+use sdg_base::BinOp;
+use sqlite_items::Boxed;
 use std::alloc::{AllocError, Global};
 
-/// The node of a row, which is its first operand where nothing follows that.
-fn row_of(alloc: Global, first: Expr, operations: Items<Operation>) -> Result<Expr, AllocError>
-    ensures { IfOk result (λ x. x ≡ spec.row first operations) }
+/// The node of a binary operator.
+fn binary(alloc: Global, op: BinOp, left: Expr, right: Expr) -> Result<Expr, AllocError>
+    ensures { IfOk result (λ x. x ≡ e.Binary op left right) }
 {
-    if operations.is_empty() {
-        return Ok(first);
-    }
-    Ok(Expr::Binary(Boxed::new(alloc, first)?, operations))
+    let left = Boxed::new(alloc, left)?;
+    let right = Boxed::new(alloc, right)?;
+    Ok(Expr::Binary(op, left, right))
 }
 
 impl<F: Fn(Global, usize, usize, &[Token]) -> Result<Found<'_>, Refusal>> Rules<F> {
-    /// The row of operations of one level. Each takes a token, so there are no more turns than tokens.
+    /// The operators of one level, each with what stands before it as its left operand. Each takes a
+    /// token, so there are no more turns than tokens.
     fn row<'t>(
         &self,
         looseness: usize,
@@ -38,36 +40,22 @@ impl<F: Fn(Global, usize, usize, &[Token]) -> Result<Found<'_>, Refusal>> Rules<
         ensures finds { Finds result (spec.row_in (spec.read_at self.now.levels) self.now.levels looseness first (kinds tokens.now)) }
         ensures measures { Measures expr_height (self.now.levels + 1) result }
     {
-        let mut operations = Items::new(self.alloc);
+        let mut left = first;
         let mut spare = first_spare;
         let mut rest = tokens;
         for _ in 0..tokens.len() {
             let Some(op) = operator_at(10_usize.saturating_sub(looseness), rest) else {
-                return Ok((row_of(self.alloc, first, operations)?, spare, rest));
+                return Ok((left, spare, rest));
             };
             if spare == 0 {
                 return Err(Refusal::TooDeep { left: rest.len() });
             }
             let (right, right_spare, behind) = self.deeper(looseness, tail(rest))?;
-            operations.push(Operation { op, right })?;
+            left = binary(self.alloc, op, left, right)?;
             spare = right_spare.min(spare - 1);
             rest = behind;
         }
         Err(Refusal::NoClass { left: rest.len() })
-    }
-
-    /// What stands one level deeper, in a box.
-    fn boxed<'t>(
-        &self,
-        looseness: usize,
-        tokens: &'t [Token],
-    ) -> Result<(Boxed<Expr>, usize, &'t [Token]), Refusal>
-        requires { Reads self.now.levels (F.pre self.now.expr) (F.post self.now.expr) }
-        ensures finds { Finds result (spec.read_at self.now.levels looseness (kinds tokens.now)) }
-        ensures measures { Measures expr_height self.now.levels result }
-    {
-        let (x, spare, rest) = self.deeper(looseness, tokens)?;
-        Ok((Boxed::new(self.alloc, x)?, spare, rest))
     }
 
     /// What goes on behind a test: the conditional, where a question mark stands there. The test is boxed first, and
@@ -229,7 +217,7 @@ pub(crate) fn call(
     };
     let (x, _, rest) = rules.called(tokens)?;
     match x {
-        Expr::Call(call) => Ok((call, rest)),
+        Expr::Call(call) => Ok((call.into_inner(), rest)),
         _ => Err(Refusal::NoClass { left: rest.len() }),
     }
 }

@@ -7,6 +7,7 @@ ghost use Rattle.java_parser.specs.Simples as spec;
 
 use crate::error::Refusal;
 use crate::forms::{SimpleForm, simple_form};
+use crate::lists::listed;
 use crate::members::{annotated, is_named, optional, type_name, type_of};
 use crate::rows::{call, value};
 use crate::words::{Wanted, after, begins, name};
@@ -259,10 +260,7 @@ pub(crate) fn simples(
 ) -> Result<(Items<Simple>, &[Token]), Refusal>
     ensures { Gives (λ x. (x.0, kinds x.1.now)) result (spec.simples_at levels (kinds tokens.now)) }
 {
-    let mut simples = Items::new(alloc);
     let (first, rest) = simple(alloc, levels, tokens)?;
-    simples.push(first)?;
     let (others, rest) = other_simples(alloc, levels, rest)?;
-    simples.append(others)?;
-    Ok((simples, rest))
+    Ok((listed(alloc, first, others)?, rest))
 }

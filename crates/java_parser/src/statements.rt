@@ -8,7 +8,8 @@ ghost use Rattle.java_parser.specs.Inner.{ReadsStatements};
 
 use crate::error::Refusal;
 use crate::forms::{StatementForm, statement_form};
-use crate::headers::{ForHeader, for_header};
+use crate::headers::for_header;
+use crate::lists::fitted;
 use crate::rows::{expr, value};
 use crate::simples::{local, local_ahead, simple_in};
 use crate::words::{Wanted, after, begins, is};
@@ -21,11 +22,12 @@ type Branches = (Boxed<Stmt>, Option<Boxed<Stmt>>);
 
 /// A condition in parentheses.
 #[tactic(auto, unfolding(crate::specs::Statements::test_at))]
-fn test(alloc: Global, levels: usize, tokens: &[Token]) -> Result<(Expr, &[Token]), Refusal>
+fn test(alloc: Global, levels: usize, tokens: &[Token]) -> Result<(Boxed<Expr>, &[Token]), Refusal>
     ensures { Gives (λ x. (x.0, kinds x.1.now)) result (spec.test_at levels (kinds tokens.now)) }
 {
     let rest = after(tokens, &[Wanted::Symbol(Symbol::OpenParen)])?;
     let (test, rest) = expr(alloc, levels, rest)?;
+    let test = Boxed::new(alloc, test)?;
     let rest = after(rest, &[Wanted::Symbol(Symbol::CloseParen)])?;
     Ok((test, rest))
 }
@@ -46,14 +48,14 @@ fn returned(
     alloc: Global,
     levels: usize,
     tokens: &[Token],
-) -> Result<(Option<Value>, &[Token]), Refusal>
+) -> Result<(Option<Boxed<Value>>, &[Token]), Refusal>
     ensures { Gives (λ x. (x.0, kinds x.1.now)) result (spec.returned_at levels (kinds tokens.now)) }
 {
     if begins(tokens, Wanted::Symbol(Symbol::Semicolon)) {
         return Ok((None, tokens));
     }
     let (value, rest) = value(alloc, levels, tokens)?;
-    Ok((Some(value), rest))
+    Ok((Some(Boxed::new(alloc, value)?), rest))
 }
 
 #[tactic(auto, unfolding(crate::specs::Statements::return_at))]
@@ -80,7 +82,7 @@ fn simple_statement(
 {
     let (simple, rest) = simple_in(alloc, levels, tokens)?;
     let rest = after(rest, &[Wanted::Symbol(Symbol::Semicolon)])?;
-    Ok((Stmt::Simple(simple), rest))
+    Ok((Stmt::Simple(Boxed::new(alloc, simple)?), rest))
 }
 
 /// Whether a block or a class goes on.
@@ -128,7 +130,7 @@ impl<F: Fn(Global, usize, &[Token]) -> Result<(Stmt, &[Token]), Refusal>> Statem
         if local_ahead(tokens) {
             let (local, rest) = local(self.alloc, self.levels, tokens)?;
             let rest = after(rest, &[Wanted::Symbol(Symbol::Semicolon)])?;
-            return Ok((BlockItem::Local(local), rest));
+            return Ok((BlockItem::Local(Boxed::new(self.alloc, local)?), rest));
         }
         let (body, rest) = self.inner(tokens)?;
         Ok((BlockItem::Stmt(body), rest))
@@ -160,6 +162,7 @@ impl<F: Fn(Global, usize, &[Token]) -> Result<(Stmt, &[Token]), Refusal>> Statem
     {
         let rest = after(tokens, &[Wanted::Symbol(Symbol::OpenBrace)])?;
         let (items, rest) = self.items(rest)?;
+        let items = fitted(self.alloc, items)?;
         let rest = after(rest, &[Wanted::Symbol(Symbol::CloseBrace)])?;
         Ok((items, rest))
     }
@@ -221,8 +224,7 @@ impl<F: Fn(Global, usize, &[Token]) -> Result<(Stmt, &[Token]), Refusal>> Statem
     {
         let (header, rest) = for_header(self.alloc, self.levels, tokens)?;
         let (body, rest) = self.boxed(rest)?;
-        let ForHeader { init, test, update } = header;
-        Ok((Stmt::For(init, test, update, body), rest))
+        Ok((Stmt::For(Boxed::new(self.alloc, header)?, body), rest))
     }
 
     /// A statement of this form.

@@ -1,5 +1,5 @@
 -- How many statements and expressions of a tree stand inside one another, parentheses included. A method's body is the
--- first level; operators in a row count as if each had those before it inside its left operand.
+-- first level.
 use Rattle.std.specs.Prelude.{ℕ, suc, max, List, [], ◌∷◌, map, Option, Some, None}
 use Rattle.java_tree.specs.declared.tree.Class.{Class}
 use Rattle.java_tree.specs.declared.tree.Member.{Member}
@@ -9,10 +9,11 @@ use Rattle.java_tree.specs.declared.tree.Simple.{Simple}
 use Rattle.java_tree.specs.declared.tree.Simple.TheVariants as simple
 use Rattle.java_tree.specs.declared.tree.ForInit.{ForInit}
 use Rattle.java_tree.specs.declared.tree.ForInit.TheVariants as for_init
+use Rattle.java_tree.specs.declared.tree.ForHeader.{ForHeader}
 use Rattle.java_tree.specs.declared.tree.Expr.{Expr}
 use Rattle.java_tree.specs.declared.tree.Value.{Value}
 use Rattle.java_tree.specs.declared.tree.CallForm.{CallForm}
-use Rattle.java_tree.specs.declared.tree.CallForm.TheOpen.{CallForm-F, Expr-F, Operation-F, Value-F}
+use Rattle.java_tree.specs.declared.tree.CallForm.TheOpen.{CallForm-F, Expr-F, Value-F}
 use Rattle.java_tree.specs.declared.tree.CallForm.TheOpen as e
 use Rattle.java_tree.specs.declared.tree.CallForm.TheFolds.{fold-CallForm, fold-Expr, fold-Value}
 use Rattle.java_tree.specs.declared.tree.BlockItem.{BlockItem}
@@ -30,14 +31,9 @@ greatest (h ∷ more) = max h (greatest more)
 
 -- ---- expressions
 
--- operators around what stands before them, with the heights of the operands to their right
-abbrev pub row_height : ℕ → List ℕ → ℕ
-row_height first [] = first
-row_height first (right ∷ more) = row_height (suc (max first right)) more
-
-abbrev pub expr_layer_height : Expr-F ℕ ℕ ℕ ℕ → ℕ
+abbrev pub expr_layer_height : Expr-F ℕ ℕ ℕ → ℕ
 expr_layer_height (e.Conditional test first second) = suc (max test (max first second))
-expr_layer_height (e.Binary first operations) = row_height first operations
+expr_layer_height (e.Binary op left right) = suc (max left right)
 expr_layer_height (e.Unary op operand) = suc operand
 expr_layer_height (e.Cast to operand) = suc operand
 expr_layer_height (e.Number digits decimal long) = 1
@@ -49,25 +45,22 @@ expr_layer_height (e.Index name at) = suc at
 expr_layer_height (e.Member object name) = 1
 expr_layer_height (e.Call call) = call
 
-abbrev pub operation_layer_height : Operation-F ℕ ℕ ℕ ℕ → ℕ
-operation_layer_height o = o.right
-
-abbrev pub value_layer_height : Value-F ℕ ℕ ℕ ℕ → ℕ
+abbrev pub value_layer_height : Value-F ℕ ℕ ℕ → ℕ
 value_layer_height v = v.expr
 
-abbrev pub call_layer_height : CallForm-F ℕ ℕ ℕ ℕ → ℕ
+abbrev pub call_layer_height : CallForm-F ℕ ℕ ℕ → ℕ
 call_layer_height (e.Own name args) = suc (greatest args)
 call_layer_height (e.Of object name args) = suc (greatest args)
 call_layer_height (e.OfMember object at name args) = suc (max at (greatest args))
 
 abbrev pub expr_height : Expr → ℕ
-expr_height = fold-Expr ℕ ℕ ℕ ℕ call_layer_height expr_layer_height operation_layer_height value_layer_height
+expr_height = fold-Expr ℕ ℕ ℕ call_layer_height expr_layer_height value_layer_height
 
 abbrev pub value_height : Value → ℕ
-value_height = fold-Value ℕ ℕ ℕ ℕ call_layer_height expr_layer_height operation_layer_height value_layer_height
+value_height = fold-Value ℕ ℕ ℕ call_layer_height expr_layer_height value_layer_height
 
 abbrev pub call_height : CallForm → ℕ
-call_height = fold-CallForm ℕ ℕ ℕ ℕ call_layer_height expr_layer_height operation_layer_height value_layer_height
+call_height = fold-CallForm ℕ ℕ ℕ call_layer_height expr_layer_height value_layer_height
 
 -- ---- statements
 
@@ -92,6 +85,9 @@ init_height for_init.Nothing = 0
 init_height (for_init.Local l) = local_height l
 init_height (for_init.Simples all) = greatest (map simple_height all)
 
+abbrev pub header_height : ForHeader → ℕ
+header_height h = max (init_height h.init) (max (option_height expr_height h.test) (greatest (map simple_height h.update)))
+
 abbrev pub item_layer_height : BlockItem-F ℕ ℕ → ℕ
 item_layer_height (s.Local l) = local_height l
 item_layer_height (s.Stmt body) = body
@@ -102,8 +98,7 @@ statement_layer_height s.Empty = 1
 statement_layer_height (s.Simple x) = simple_height x
 statement_layer_height (s.If test first second) = suc (max (expr_height test) (max first (option_height (λ h. h) second)))
 statement_layer_height (s.While test body) = suc (max (expr_height test) body)
-statement_layer_height (s.For init test update body) =
-    suc (max (init_height init) (max (option_height expr_height test) (max (greatest (map simple_height update)) body)))
+statement_layer_height (s.For header body) = suc (max (header_height header) body)
 statement_layer_height s.Break = 1
 statement_layer_height s.Continue = 1
 statement_layer_height (s.Return v) = suc (option_height value_height v)

@@ -1,6 +1,6 @@
--- Whether each part of a tree stands where the grammar has it: operands hold tighter than their operators, operators of
--- one level are one row, and an `else` belongs to the innermost open `if` (JLS 14.9, 15.15 to 15.25).
-use Rattle.std.specs.Prelude.{ℕ, Bool, true, false, not, IsTrue, ◌&&◌, nat_eq, nat_lt, List, [], ◌∷◌, Option, Some, None}
+-- Whether each part of a tree stands where the grammar has it: operands hold tighter than their operators, but that
+-- operators of one level associate to the left, and an `else` belongs to the innermost open `if` (JLS 14.9, 15.15 to 15.25).
+use Rattle.std.specs.Prelude.{ℕ, Bool, true, false, not, IsTrue, ◌≡◌, ◌&&◌, nat_le, nat_lt, List, [], ◌∷◌, length, Option, Some, None}
 use Rattle.java_tree.specs.declared.tree.Class.{Class}
 use Rattle.java_tree.specs.declared.tree.Member.{Member}
 use Rattle.java_tree.specs.declared.tree.Member.TheVariants as member
@@ -9,16 +9,18 @@ use Rattle.java_tree.specs.declared.tree.Simple.{Simple}
 use Rattle.java_tree.specs.declared.tree.Simple.TheVariants as simple
 use Rattle.java_tree.specs.declared.tree.ForInit.{ForInit}
 use Rattle.java_tree.specs.declared.tree.ForInit.TheVariants as for_init
+use Rattle.java_tree.specs.declared.tree.ForHeader.{ForHeader}
 use Rattle.java_tree.specs.declared.tree.Expr.{Expr}
 use Rattle.java_tree.specs.declared.tree.Value.{Value}
 use Rattle.java_tree.specs.declared.tree.CallForm.{CallForm}
-use Rattle.java_tree.specs.declared.tree.CallForm.TheOpen.{CallForm-F, Expr-F, Operation-F, Value-F}
+use Rattle.java_tree.specs.declared.tree.CallForm.TheOpen.{CallForm-F, Expr-F, Value-F}
 use Rattle.java_tree.specs.declared.tree.CallForm.TheOpen as e
 use Rattle.java_tree.specs.declared.tree.CallForm.TheFolds.{fold-CallForm, fold-Expr, fold-Value}
 use Rattle.java_tree.specs.declared.tree.BlockItem.{BlockItem}
 use Rattle.java_tree.specs.declared.tree.BlockItem.TheOpen.{BlockItem-F, Stmt-F}
 use Rattle.java_tree.specs.declared.tree.BlockItem.TheOpen as s
 use Rattle.java_tree.specs.declared.tree.BlockItem.TheFolds.{fold-BlockItem}
+use Rattle.java_tree.specs.Tokens.{kinds_of}
 use Rattle.java_tree.specs.Levels.{operator_level, conditional_level, unary_level, primary_level}
 
 abbrev pub all_of : {A : Type 0} → (A → Bool) → List A → Bool
@@ -27,8 +29,7 @@ all_of test (x ∷ xs) = test x && all_of test xs
 
 -- ---- expressions
 
--- how tightly the top of an expression holds, and whether all of it is well placed; of an operation, how tightly its
--- operator holds, and whether its operand is well placed and holds tighter
+-- how tightly the top of an expression holds, and whether all of it is well placed
 pub record Standing : Type 0 where
   pub tightness : ℕ
   pub is_placed : Bool
@@ -36,22 +37,21 @@ pub record Standing : Type 0 where
 abbrev pub holding : ℕ → Bool → Standing
 holding level placed = record { tightness = level; is_placed = placed }
 
--- an operand that holds tighter than this
+-- an operand that holds at least as tightly, and one that holds tighter
+abbrev pub is_from : ℕ → Standing → Bool
+is_from level x = x.is_placed && nat_le level x.tightness
+
 abbrev pub is_above : ℕ → Standing → Bool
 is_above level x = x.is_placed && nat_lt level x.tightness
 
--- operations of one level
-abbrev pub is_row : ℕ → List Standing → Bool
-is_row level operations = all_of (λ o. o.is_placed && nat_eq o.tightness level) operations
+-- The left operand may be of the same level.
+abbrev pub binary_standing : ℕ → Standing → Standing → Standing
+binary_standing level left right = holding level (is_from level left && is_above level right)
 
-abbrev pub row_standing : Standing → List Standing → Standing
-row_standing first [] = holding conditional_level false
-row_standing first (o ∷ more) = holding o.tightness (is_above o.tightness first && is_row o.tightness (o ∷ more))
-
-abbrev pub expr_standing : Expr-F Bool Standing Standing Bool → Standing
+abbrev pub expr_standing : Expr-F Bool Standing Bool → Standing
 expr_standing (e.Conditional test first second) =
     holding conditional_level (is_above conditional_level test && (first.is_placed && second.is_placed))
-expr_standing (e.Binary first operations) = row_standing first operations
+expr_standing (e.Binary op left right) = binary_standing (operator_level op) left right
 expr_standing (e.Unary op operand) = holding unary_level (is_above 10 operand)
 expr_standing (e.Cast to operand) = holding unary_level (is_above 10 operand)
 expr_standing (e.Number digits decimal long) = holding primary_level true
@@ -63,25 +63,22 @@ expr_standing (e.Index name at) = holding primary_level at.is_placed
 expr_standing (e.Member object name) = holding primary_level true
 expr_standing (e.Call call) = holding primary_level call
 
-abbrev pub operation_standing : Operation-F Bool Standing Standing Bool → Standing
-operation_standing o = let level = operator_level o.op in holding level (is_above level o.right)
-
-abbrev pub value_placed : Value-F Bool Standing Standing Bool → Bool
+abbrev pub value_placed : Value-F Bool Standing Bool → Bool
 value_placed v = v.expr.is_placed
 
-abbrev pub call_placed : CallForm-F Bool Standing Standing Bool → Bool
+abbrev pub call_placed : CallForm-F Bool Standing Bool → Bool
 call_placed (e.Own name args) = all_of (λ a. a) args
 call_placed (e.Of object name args) = all_of (λ a. a) args
 call_placed (e.OfMember object at name args) = at.is_placed && all_of (λ a. a) args
 
 abbrev pub standing_of : Expr → Standing
-standing_of = fold-Expr Bool Standing Standing Bool call_placed expr_standing operation_standing value_placed
+standing_of = fold-Expr Bool Standing Bool call_placed expr_standing value_placed
 
 abbrev pub is_placed_value : Value → Bool
-is_placed_value = fold-Value Bool Standing Standing Bool call_placed expr_standing operation_standing value_placed
+is_placed_value = fold-Value Bool Standing Bool call_placed expr_standing value_placed
 
 abbrev pub is_placed_call : CallForm → Bool
-is_placed_call = fold-CallForm Bool Standing Standing Bool call_placed expr_standing operation_standing value_placed
+is_placed_call = fold-CallForm Bool Standing Bool call_placed expr_standing value_placed
 
 abbrev pub is_placed_expr : Expr → Bool
 is_placed_expr x = (standing_of x).is_placed
@@ -110,6 +107,9 @@ is_placed_init (for_init.Local l) = is_placed_local l
 is_placed_init (for_init.Simples []) = false
 is_placed_init (for_init.Simples (x ∷ more)) = all_of is_placed_simple (x ∷ more)
 
+abbrev pub is_placed_header : ForHeader → Bool
+is_placed_header h = is_placed_init h.init && (is_placed_option is_placed_expr h.test && all_of is_placed_simple h.update)
+
 -- whether an `if` without `else` stands at the right edge, and whether the statement is well placed
 pub record Ending : Type 0 where
   pub is_open : Bool
@@ -133,9 +133,7 @@ statement_ending (s.If test first None) = ending true (is_placed_expr test && fi
 statement_ending (s.If test first (Some second)) =
     ending second.is_open (is_placed_expr test && (first.is_placed && (not first.is_open && second.is_placed)))
 statement_ending (s.While test body) = ending body.is_open (is_placed_expr test && body.is_placed)
-statement_ending (s.For init test update body) =
-    ending body.is_open
-    (is_placed_init init && (is_placed_option is_placed_expr test && (all_of is_placed_simple update && body.is_placed)))
+statement_ending (s.For header body) = ending body.is_open (is_placed_header header && body.is_placed)
 statement_ending s.Break = closed true
 statement_ending s.Continue = closed true
 statement_ending (s.Return v) = closed (is_placed_option is_placed_value v)
@@ -149,5 +147,7 @@ abbrev pub is_placed_member : Member → Bool
 is_placed_member (member.Field f) = true
 is_placed_member (member.Method m) = all_of is_placed_item m.body
 
-abbrev pub IsWellPlaced : Class → Type 0
-IsWellPlaced c = IsTrue (all_of is_placed_member c.members)
+-- Each token has its place.
+pub record IsWellPlaced (c : Class) : Type 0 where
+  pub members : IsTrue (all_of is_placed_member c.members)
+  pub places : length c.places ≡ length (kinds_of c)

@@ -1,6 +1,6 @@
--- The tokens of a tree, in their order: the grammar of the Java profile, one equation a production.
+-- The tokens of a tree, in their order: the grammar of the Java profile, one equation a production, and the place of each.
 use Rattle.std.specs.Prelude.{ℕ, Bool, true, false, if◌then◌else◌, List, [], ◌∷◌, ◌++◌, map, Option, Some, None, codes}
-use Rattle.std.specs.List.{flat_map}
+use Rattle.std.specs.List.{flat_map, zip}
 use Rattle.sdg_base.specs.declared.operator.BinOp.{BinOp}
 use Rattle.sdg_base.specs.declared.operator.BinOp.TheVariants as bin
 use Rattle.sdg_base.specs.declared.operator.UnOp.{UnOp}
@@ -12,6 +12,8 @@ use Rattle.java_tree.specs.declared.token.Kind.TheVariants as k
 use Rattle.java_tree.specs.declared.token.Reserved.TheVariants as word
 use Rattle.java_tree.specs.declared.token.Symbol.{Symbol}
 use Rattle.java_tree.specs.declared.token.Symbol.TheVariants as symbol
+use Rattle.java_tree.specs.declared.token.Place.{Place}
+use Rattle.java_tree.specs.declared.token.Token.{Token}
 use Rattle.java_tree.specs.declared.tree.QualifiedName.{QualifiedName}
 use Rattle.java_tree.specs.declared.tree.Import.{Import}
 use Rattle.java_tree.specs.declared.tree.Modifier.{Modifier}
@@ -35,10 +37,11 @@ use Rattle.java_tree.specs.declared.tree.Simple.{Simple}
 use Rattle.java_tree.specs.declared.tree.Simple.TheVariants as simple
 use Rattle.java_tree.specs.declared.tree.ForInit.{ForInit}
 use Rattle.java_tree.specs.declared.tree.ForInit.TheVariants as for_init
+use Rattle.java_tree.specs.declared.tree.ForHeader.{ForHeader}
 use Rattle.java_tree.specs.declared.tree.Expr.{Expr}
 use Rattle.java_tree.specs.declared.tree.Value.{Value}
 use Rattle.java_tree.specs.declared.tree.CallForm.{CallForm}
-use Rattle.java_tree.specs.declared.tree.CallForm.TheOpen.{CallForm-F, Expr-F, Operation-F, Value-F}
+use Rattle.java_tree.specs.declared.tree.CallForm.TheOpen.{CallForm-F, Expr-F, Value-F}
 use Rattle.java_tree.specs.declared.tree.CallForm.TheOpen as e
 use Rattle.java_tree.specs.declared.tree.BlockItem.{BlockItem}
 use Rattle.java_tree.specs.declared.tree.BlockItem.TheOpen.{BlockItem-F, Stmt-F}
@@ -103,9 +106,9 @@ number_type num.Int = k.Reserved word.Int ∷ []
 number_type num.Long = k.Reserved word.Long ∷ []
 
 -- One level of an expression, with the tokens of each part in its place.
-abbrev pub expr_step : Expr-F Kinds Kinds Kinds Kinds → Kinds
+abbrev pub expr_step : Expr-F Kinds Kinds Kinds → Kinds
 expr_step (e.Conditional test first second) = test ++ (k.Symbol symbol.Question ∷ (first ++ (k.Symbol symbol.Colon ∷ second)))
-expr_step (e.Binary first operations) = first ++ flat_map (λ o. o) operations
+expr_step (e.Binary op left right) = left ++ (k.Symbol (operator_symbol op) ∷ right)
 expr_step (e.Unary op operand) = k.Symbol (unary_symbol op) ∷ operand
 expr_step (e.Cast to operand) = in_parentheses (number_type to) ++ operand
 expr_step (e.Number digits decimal long) = k.Number digits decimal long ∷ []
@@ -118,26 +121,23 @@ expr_step (e.Index name at) = k.Identifier name ∷ k.Symbol symbol.OpenBracket 
 expr_step (e.Member object name) = k.Identifier object ∷ k.Symbol symbol.Dot ∷ id name
 expr_step (e.Call call) = call
 
-abbrev pub operation_step : Operation-F Kinds Kinds Kinds Kinds → Kinds
-operation_step o = k.Symbol (operator_symbol o.op) ∷ o.right
-
-abbrev pub value_step : Value-F Kinds Kinds Kinds Kinds → Kinds
+abbrev pub value_step : Value-F Kinds Kinds Kinds → Kinds
 value_step v = global v.is_global ++ v.expr
 
-abbrev pub call_step : CallForm-F Kinds Kinds Kinds Kinds → Kinds
+abbrev pub call_step : CallForm-F Kinds Kinds Kinds → Kinds
 call_step (e.Own name args) = k.Identifier name ∷ in_parentheses (separated args)
 call_step (e.Of object name args) = k.Identifier object ∷ k.Symbol symbol.Dot ∷ k.Identifier name ∷ in_parentheses (separated args)
 call_step (e.OfMember object at name args) =
     k.Identifier object ∷ k.Symbol symbol.OpenBracket ∷ (at ++ (k.Symbol symbol.CloseBracket ∷ k.Symbol symbol.Dot ∷ k.Identifier name ∷ in_parentheses (separated args)))
 
 abbrev pub expr_tokens : Expr → Kinds
-expr_tokens = fold-Expr Kinds Kinds Kinds Kinds call_step expr_step operation_step value_step
+expr_tokens = fold-Expr Kinds Kinds Kinds call_step expr_step value_step
 
 abbrev pub value_tokens : Value → Kinds
-value_tokens = fold-Value Kinds Kinds Kinds Kinds call_step expr_step operation_step value_step
+value_tokens = fold-Value Kinds Kinds Kinds call_step expr_step value_step
 
 abbrev pub call_tokens : CallForm → Kinds
-call_tokens = fold-CallForm Kinds Kinds Kinds Kinds call_step expr_step operation_step value_step
+call_tokens = fold-CallForm Kinds Kinds Kinds call_step expr_step value_step
 
 -- ---- statements
 
@@ -188,6 +188,11 @@ abbrev pub condition : Option Expr → Kinds
 condition None = []
 condition (Some c) = expr_tokens c
 
+abbrev pub header_tokens : ForHeader → Kinds
+header_tokens h =
+    init_tokens h.init
+    ++ (k.Symbol symbol.Semicolon ∷ (condition h.test ++ (k.Symbol symbol.Semicolon ∷ separated (map simple_tokens h.update))))
+
 abbrev pub otherwise : Option Kinds → Kinds
 otherwise None = []
 otherwise (Some body) = k.Reserved word.Else ∷ body
@@ -210,10 +215,7 @@ statement_step s.Empty = sym symbol.Semicolon
 statement_step (s.Simple x) = simple_tokens x ++ sym symbol.Semicolon
 statement_step (s.If test first second) = k.Reserved word.If ∷ (in_parentheses (expr_tokens test) ++ (first ++ otherwise second))
 statement_step (s.While test body) = k.Reserved word.While ∷ (in_parentheses (expr_tokens test) ++ body)
-statement_step (s.For init test update body) =
-    k.Reserved word.For
-    ∷ (in_parentheses (init_tokens init ++ (k.Symbol symbol.Semicolon ∷ (condition test ++ (k.Symbol symbol.Semicolon ∷ separated (map simple_tokens update)))))
-    ++ body)
+statement_step (s.For header body) = k.Reserved word.For ∷ (in_parentheses (header_tokens header) ++ body)
 statement_step s.Break = k.Reserved word.Break ∷ sym symbol.Semicolon
 statement_step s.Continue = k.Reserved word.Continue ∷ sym symbol.Semicolon
 statement_step (s.Return v) = k.Reserved word.Return ∷ (returned v ++ sym symbol.Semicolon)
@@ -271,8 +273,17 @@ abbrev pub member_tokens : Member → Kinds
 member_tokens (member.Field f) = field_tokens f
 member_tokens (member.Method m) = method_tokens m
 
-abbrev pub tokens_of : Class → Kinds
-tokens_of c =
+abbrev pub kinds_of : Class → Kinds
+kinds_of c =
     package_tokens c.package
     ++ (flat_map import_tokens c.imports
     ++ (flat_map modifier_tokens c.modifiers ++ (k.Reserved word.Class ∷ k.Identifier c.name ∷ in_braces (flat_map member_tokens c.members))))
+
+-- ---- places
+
+abbrev pub token_at : Kind × Place → Token
+token_at at = record { kind = at.0; place = at.1 }
+
+-- Each kind stands at the place of its number.
+abbrev pub tokens_of : Class → List Token
+tokens_of c = map token_at (zip (kinds_of c) c.places)

@@ -3,10 +3,12 @@
 
 mod token;
 mod tree;
+mod types;
 
 pub use token::{Kind, Place, Reserved, Symbol, Token, Tokens};
 pub use tree::{
-    AssignOp, Block, BlockItem, CallForm, Class, Expr, Field, FieldModifier, ForInit, Import,
-    Local, Member, Method, Modifier, Operation, Param, QualifiedName, ResultType, Simple, Stmt,
+    AssignOp, Block, BlockItem, CallForm, Class, Expr, Field, FieldModifier, ForHeader, ForInit,
+    Import, Local, Member, Method, Modifier, Param, QualifiedName, ResultType, Simple, Stmt,
     TypeName, Value,
 };
+pub use types::{Declaration, ExprType, Typed, Types, ValueType, discard};

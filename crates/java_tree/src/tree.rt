@@ -1,5 +1,6 @@
 //! The syntax tree of a class: a type for each production, with parentheses as nodes.
 
+use crate::token::Place;
 use sdg_base::{BinOp, Name, Num, UnOp};
 use sqlite_items::{Boxed, Items};
 
@@ -35,7 +36,7 @@ pub enum FieldModifier {
     Private,
 }
 
-/// A file with its one class.
+/// A file with its one class, and where each of its tokens begins, in text order.
 #[derive(Drop)]
 pub struct Class {
     pub package: Option<QualifiedName>,
@@ -43,6 +44,7 @@ pub struct Class {
     pub modifiers: Items<Modifier>,
     pub name: Name,
     pub members: Items<Member>,
+    pub places: Items<Place>,
 }
 
 /// A member of a class.
@@ -103,7 +105,7 @@ pub type Block = Items<BlockItem>;
 #[cycle(statements)]
 #[derive(Drop)]
 pub enum BlockItem {
-    Local(Local),
+    Local(Boxed<Local>),
     Stmt(Stmt),
 }
 
@@ -116,19 +118,27 @@ pub struct Local {
     pub value: Option<Value>,
 }
 
-/// A statement (JLS 14). A `for` has its start, its condition, its update and its body.
+/// A statement (JLS 14). What is large stands in boxes, so that lists of statements are small.
 #[cycle(statements)]
 #[derive(Drop)]
 pub enum Stmt {
     Block(Items<BlockItem>),
     Empty,
-    Simple(Simple),
-    If(Expr, Boxed<Stmt>, Option<Boxed<Stmt>>),
-    While(Expr, Boxed<Stmt>),
-    For(ForInit, Option<Expr>, Items<Simple>, Boxed<Stmt>),
+    Simple(Boxed<Simple>),
+    If(Boxed<Expr>, Boxed<Stmt>, Option<Boxed<Stmt>>),
+    While(Boxed<Expr>, Boxed<Stmt>),
+    For(Boxed<ForHeader>, Boxed<Stmt>),
     Break,
     Continue,
-    Return(Option<Value>),
+    Return(Option<Boxed<Value>>),
+}
+
+/// The header of a `for`: its start, its condition and its update (JLS 14.14.1).
+#[derive(Drop)]
+pub struct ForHeader {
+    pub init: ForInit,
+    pub test: Option<Expr>,
+    pub update: Items<Simple>,
 }
 
 /// What stands first in the header of a `for`.
@@ -176,15 +186,12 @@ pub struct Value {
     pub expr: Expr,
 }
 
-/// An expression (JLS 15). A number is as in its token.
-///
-/// Binary operators of one precedence in a row associate to the left and are one node: the first
-/// operand, and each operator with the operand to its right.
+/// An expression (JLS 15). A number is as in its token. What is large stands in boxes.
 #[cycle(expressions)]
 #[derive(Drop)]
 pub enum Expr {
     Conditional(Boxed<Expr>, Boxed<Expr>, Boxed<Expr>),
-    Binary(Boxed<Expr>, Items<Operation>),
+    Binary(BinOp, Boxed<Expr>, Boxed<Expr>),
     Unary(UnOp, Boxed<Expr>),
     Cast(Num, Boxed<Expr>),
     Number {
@@ -197,16 +204,8 @@ pub enum Expr {
     New(Name, Boxed<Expr>),
     Name(Name),
     Index(Name, Boxed<Expr>),
-    Member(Name, Name),
-    Call(CallForm),
-}
-
-/// A binary operator and the operand to its right.
-#[cycle(expressions)]
-#[derive(Drop)]
-pub struct Operation {
-    pub op: BinOp,
-    pub right: Expr,
+    Member(Name, Boxed<Name>),
+    Call(Boxed<CallForm>),
 }
 
 /// A call: of a method of the class, of a method of a named object, or of a member's.

@@ -1,3 +1,3 @@
-pub mod Slots
-pub mod Plain
+pub mod Defaults
 pub mod Ports
+pub mod Slots

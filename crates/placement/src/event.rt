@@ -1,7 +1,7 @@
 //! The events of a schedule, and what they answered.
 
 ghost use Rattle.std.specs.Prelude.{◌≡◌};
-ghost use Rattle.placement.specs.Plain.{plain_schedule};
+ghost use Rattle.placement.specs.Defaults.{default_schedule};
 
 use sdg_base::Port;
 use sqlite_items::Items;
@@ -38,8 +38,8 @@ pub struct Schedule {
 impl Schedule {
     /// What a run without a schedule stands on: one node, slot, store and instance, and no events. It
     /// takes no memory.
-    pub fn plain(alloc: Global) -> Schedule
-        ensures { result ≡ plain_schedule }
+    pub fn by_default(alloc: Global) -> Schedule
+        ensures { result ≡ default_schedule }
     {
         Schedule {
             header: Header {

@@ -29,7 +29,7 @@ fn keys_have_their_slots(rt: HostRuntime) {
 
 #[test]
 fn nothing_said_is_one_of_each(rt: HostRuntime) {
-    let schedule = Schedule::plain(rt.alloc());
+    let schedule = Schedule::by_default(rt.alloc());
     assert_eq!(rt;
         schedule.header,
         Header {

@@ -1,6 +1,6 @@
 mod Accesses
 mod ClassTrees
-mod Expressions
+pub mod Expressions
 mod FieldTables
 mod JoinedBlocks
 mod LegalSteps

@@ -4,6 +4,7 @@ use Rattle.std.specs.List.{AllByRecursion}
 use Rattle.std.proofs.Math.Seq.{append_snoc}
 use Rattle.std.proofs.lemmas.List.{append-nil}
 use Rattle.std.proofs.lemmas.Option.{none-some, same_Some}
+use Rattle.sdg_base.specs.Limits.{turns_at_start}
 use Rattle.sdg_base.specs.declared.val.Val.{Val}
 use Rattle.sdg_base.specs.declared.val.Outcome.{Outcome}
 use Rattle.sdg_base.specs.declared.call.Call.{Call}
@@ -15,7 +16,7 @@ use Rattle.java_tree.specs.declared.tree.BlockItem.{BlockItem}
 use Rattle.access_blocks.specs.Variables.{Variables, Tables}
 use Rattle.access_blocks.specs.Members.{fields, methods, empty_tables, variables_of}
 use Rattle.access_blocks.specs.Blocks.{Place, AtMark, AtEnd, run_from, run_block}
-use Rattle.access_blocks.specs.Source.{CallState, Fresh, At, Ended, Source, turns_at_start, state_of, begun, steps_from, outcome, outcome_in, numbered, Explains}
+use Rattle.access_blocks.specs.Source.{CallState, Fresh, At, Ended, Source, state_of, begun, steps_from, outcome, outcome_in, numbered, Explains}
 use Rattle.plain_java.specs.Plain.{Runs, RunAll}
 use Rattle.plain_java.specs.Serial.{FirstArePlain, SerialIsPlain}
 use Rattle.access_blocks.specs.Serial.{IsSerial}

@@ -3,6 +3,8 @@ use Rattle.std.proofs.Common.{◌≡◌, ℕ, zero, suc, Contains, sym, arith, B
 use Rattle.std.specs.List.{list_any}
 use Rattle.std.specs.Str.{bytes_eq}
 use Rattle.std.proofs.lemmas.Slice.Eq.{bytes_eq-Decides}
+use Rattle.sdg_base.specs.declared.operator.BinOp.{BinOp}
+use Rattle.sdg_base.specs.declared.operator.BinOp.TheVariants as bin
 use Rattle.java_tree.specs.declared.tree.TypeName.TheVariants as type_name
 use Rattle.java_tree.specs.declared.tree.Local.{Local}
 use Rattle.java_tree.specs.declared.tree.Value.{Value}
@@ -17,7 +19,7 @@ use Rattle.java_tree.specs.declared.tree.BlockItem.TheVariants as item
 use Rattle.early_forms.specs.declared.straight.Atom.{Atom}
 use Rattle.early_forms.specs.declared.straight.Atom.TheVariants.{Literal, Variable}
 use Rattle.early_forms.specs.declared.straight.Sum.{Sum}
-use Rattle.early_forms.specs.Trees.{atom_tree, plus, chain, sum_tree, plain, access, return_value, long_local}
+use Rattle.early_forms.specs.Trees.{atom_tree, chain, sum_tree, plain, access, return_value, long_local}
 use Rattle.access_blocks.specs.Sites.{Access, access_in, expr_access, access_of, statement_access, held_access}
 
 -- an access of the field, with these arguments
@@ -76,9 +78,13 @@ no_access-atom : (fields : List (List ℕ)) (atom : Atom) → expr_access fields
 no_access-atom fields (Literal n) = ap (expr_access fields) (e.outs-Number n true false)
 no_access-atom fields (Variable name) = ap (expr_access fields) (e.outs-Name name)
 
+no_access-more : (fields : List (List ℕ)) (op : BinOp) (left right : Expr) (atoms : List Atom) → expr_access fields (out-Expr (chain (e.Binary op left right) atoms)) ≡ None
+no_access-more fields op left right [] = ap (expr_access fields) (e.outs-Binary op left right)
+no_access-more fields op left right (atom ∷ atoms) = no_access-more fields bin.Add (e.Binary op left right) (atom_tree atom) atoms
+
 no_access-chain : (fields : List (List ℕ)) (first : Atom) (others : List Atom) → expr_access fields (out-Expr (chain (atom_tree first) others)) ≡ None
 no_access-chain fields first [] = no_access-atom fields first
-no_access-chain fields first (atom ∷ atoms) = ap (expr_access fields) (e.outs-Binary (atom_tree first) (map plus (atom ∷ atoms)))
+no_access-chain fields first (atom ∷ atoms) = no_access-more fields bin.Add (atom_tree first) (atom_tree atom) atoms
 
 pub no_access-return : (fields : List (List ℕ)) (s : Sum) → access_of fields (out-BlockItem (return_value (plain (sum_tree s)))) ≡ None
 no_access-return fields s =

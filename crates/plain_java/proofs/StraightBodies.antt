@@ -19,7 +19,7 @@ use Rattle.access_blocks.specs.Expressions.{long_of}
 use Rattle.access_blocks.specs.Sites.{Access, Site, access_of, site_of, same_site, is_marked, after_declaration}
 use Rattle.access_blocks.specs.Blocks.{key_value}
 use Rattle.plain_java.specs.declared.machine.Machine.{Machine}
-use Rattle.access_blocks.specs.Source.{turns_at_start}
+use Rattle.sdg_base.specs.Limits.{turns_at_start}
 use Rattle.plain_java.specs.Bodies.{StatementRuns, begin_at}
 use Rattle.plain_java.specs.Fields.{entries_of}
 use Rattle.plain_java.specs.Keys.{written_site}

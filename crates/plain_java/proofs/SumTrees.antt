@@ -1,21 +1,20 @@
 -- The value of a sum as it is written is the sum from left to right.
-use Rattle.std.proofs.Common.{◌≡◌, ℕ, ◌+◌, ◌<◌, ◌≤◌, ℤ, pos, Bool, true, false, List, [], ◌∷◌, map, length, drop, get_or, Option, Some, None, ◌^◌, nat_lt, if◌then◌else◌, unwrap_or, add-one, sym, ◌∙◌, ap, subst, refl}
+use Rattle.std.proofs.Common.{◌≡◌, ℕ, ◌+◌, ◌<◌, ◌≤◌, ℤ, pos, Bool, true, false, List, [], ◌∷◌, length, drop, get_or, Option, Some, None, ◌^◌, nat_lt, if◌then◌else◌, unwrap_or, add-one, sym, ◌∙◌, ap, subst, refl}
 use Rattle.std.proofs.Math.Seq.{drop-cons}
 use Rattle.std.proofs.lemmas.Bool.{lt-ltb}
 use Rattle.std.proofs.lemmas.List.{drop_all}
 use Rattle.sdg_base.specs.declared.val.Val.{Val}
 use Rattle.sdg_base.specs.declared.val.Val.TheVariants as val
-use Rattle.sdg_base.specs.declared.operator.BinOp.{BinOp}
 use Rattle.sdg_base.specs.Operators.{IsNumber, widened, sum_of}
 use Rattle.early_forms.specs.declared.straight.Atom.{Atom}
 use Rattle.early_forms.specs.declared.straight.Atom.TheVariants.{Literal, Variable}
 use Rattle.early_forms.specs.declared.straight.Sum.{Sum}
 use Rattle.early_forms.specs.Names.{AtomIsKnown}
-use Rattle.early_forms.specs.Trees.{atom_tree, plus, chain, sum_tree, plain}
+use Rattle.early_forms.specs.Trees.{atom_tree, chain, sum_tree, plain}
 use Rattle.access_blocks.specs.Variables.{Variables, named}
-use Rattle.access_blocks.specs.Expressions.{Meaning, value_of, sum, applied, operated, is_number, as_long, long_from, long_of}
+use Rattle.access_blocks.specs.Expressions.{value_of, sum, is_number, as_long, long_from, long_of}
 use Rattle.plain_java.specs.Results.{atom_value}
-use Rattle.plain_java.proofs.Expressions.{operation_of, operation_of-plus, value_of-Number, value_of-Name, value_of-Binary}
+use Rattle.plain_java.proofs.Expressions.{added, value_of-Number, value_of-Name, value_of-chain}
 
 number_passes : (v : Val) → IsNumber v → is_number v ≡ true
 number_passes (val.Int n) h = refl
@@ -47,29 +46,22 @@ atom_is names variables (Variable name) v known is number =
 two_give : (a b : Val) → IsNumber a → IsNumber b → sum (Some a) (Some b) ≡ Some (sum_of a b)
 two_give a b p q = rw (number_passes a p, number_passes b q)
 
--- what is added to a total by these atoms
-abbrev pub added : Variables → Val → List Atom → Option Val
-added variables total atoms = operated variables (Some total) (map operation_of (map plus atoms))
-
 -- Before the first addition the total is the first atom.
 pub added-first : (variables : Variables) (first : Atom) (others : List Atom) (v : Val) → value_of (atom_tree first) variables ≡ Some v
-    → added variables v others ≡ value_of (chain (atom_tree first) others) variables
-added-first variables first [] v is = sym is
-added-first variables first (atom ∷ atoms) v is =
-    sym (value_of-Binary (atom_tree first) (map plus (atom ∷ atoms)) variables ∙ ap (λ o. operated variables o (map operation_of (map plus (atom ∷ atoms)))) is)
+    → added variables (Some v) others ≡ value_of (chain (atom_tree first) others) variables
+added-first variables first others v is = sym (value_of-chain (atom_tree first) others variables ∙ ap (λ o. added variables o others) is)
 
 -- and one more is added
 pub added-later : (variables : Variables) (total v : Val) (atoms : List Atom) (i : ℕ) (atom : Atom) → IsNumber total → IsNumber v → value_of (atom_tree atom) variables ≡ Some v
-    → i < length atoms → atom ≡ get_or atoms i atom → added variables (sum_of total v) (drop (i + 1) atoms) ≡ added variables total (drop i atoms)
+    → i < length atoms → atom ≡ get_or atoms i atom → added variables (Some (sum_of total v)) (drop (i + 1) atoms) ≡ added variables (Some total) (drop i atoms)
 added-later variables total v atoms i atom p q is l at =
     let here : drop i atoms ≡ atom ∷ drop (i + 1) atoms = rw (add-one, drop-cons atoms i atom, ← at) in
-    let step : applied (operation_of (plus atom)).0 (Some total) ((operation_of (plus atom)).1 variables) ≡ Some (sum_of total v) =
-    ap (λ (o : BinOp × Meaning). applied o.0 (Some total) (o.1 variables)) (operation_of-plus atom) ∙ ap (sum (Some total)) is ∙ two_give total v p q in
-    sym (ap (added variables total) here ∙ ap (λ o. operated variables o (map operation_of (map plus (drop (i + 1) atoms)))) step)
+    let step : sum (Some total) (value_of (atom_tree atom) variables) ≡ Some (sum_of total v) = ap (sum (Some total)) is ∙ two_give total v p q in
+    sym (ap (added variables (Some total)) here ∙ ap (λ o. added variables o (drop (i + 1) atoms)) step)
 
 -- once no atom is left, where a long is wanted
 pub added-all : (variables : Variables) (s : Sum) (total : Val) (atoms : List Atom) (i : ℕ) (r : ℤ) → length atoms ≤ i → IsNumber total
-    → added variables total (drop i atoms) ≡ value_of (sum_tree s) variables → val.Long r ≡ widened total → long_of (plain (sum_tree s)) variables ≡ Some (val.Long r)
+    → added variables (Some total) (drop i atoms) ≡ value_of (sum_tree s) variables → val.Long r ≡ widened total → long_of (plain (sum_tree s)) variables ≡ Some (val.Long r)
 added-all variables s total atoms i r l number is wide =
-    let whole : Some total ≡ value_of (sum_tree s) variables = sym (ap (added variables total) (drop_all i atoms l)) ∙ is in
+    let whole : Some total ≡ value_of (sum_tree s) variables = sym (ap (added variables (Some total)) (drop_all i atoms l)) ∙ is in
     ap long_from (sym whole) ∙ number_as_long total number ∙ ap Some (sym wide)

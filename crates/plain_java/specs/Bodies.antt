@@ -7,7 +7,7 @@ use Rattle.early_forms.specs.declared.straight.Statement.{Statement}
 use Rattle.early_forms.specs.Names.{declared_names}
 use Rattle.early_forms.specs.Trees.{statement_tree}
 use Rattle.access_blocks.specs.Variables.{Variables, Tables}
-use Rattle.access_blocks.specs.Source.{turns_at_start}
+use Rattle.sdg_base.specs.Limits.{turns_at_start}
 use Rattle.plain_java.specs.Plain.{Machine, Completes}
 use Rattle.plain_java.specs.Scopes.{names_in}
 

@@ -23,7 +23,7 @@ use Rattle.access_blocks.specs.Expressions.{as_long, long_of, longs_of}
 use Rattle.access_blocks.specs.Sites.{Access, Site, access_of, site_of, is_marked, after_declaration}
 use Rattle.access_blocks.specs.Members.{fields, methods, empty_tables, variables_of}
 use Rattle.access_blocks.specs.Blocks.{key_value}
-use Rattle.access_blocks.specs.Source.{turns_at_start}
+use Rattle.sdg_base.specs.Limits.{turns_at_start}
 
 -- where a body stands: the site of the last access, the variables, the turns left and the fields
 pub record Machine : Type 0 where

@@ -14,6 +14,3 @@ pub use fits::calls_fit;
 pub use run::plain;
 pub use serial::serial_is_plain;
 pub use site::{Site, is_ended, is_same};
-
-#[cfg(test)]
-mod tests;

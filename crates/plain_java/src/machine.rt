@@ -2,6 +2,7 @@
 
 ghost use Rattle.std.specs.Prelude.{◌≡◌, All, OnOk, None, length};
 ghost use Rattle.std.specs.List.{zip};
+ghost use Rattle.sdg_base.specs.Limits.{turns_at_start};
 ghost use Rattle.plain_java.specs.Fits.{IsLong};
 ghost use Rattle.plain_java.specs.Keys.{written_site};
 ghost use Rattle.plain_java.specs.Machines.{DeclaresVariable, Passes};
@@ -9,11 +10,8 @@ ghost use Rattle.plain_java.specs.Machines.{DeclaresVariable, Passes};
 use crate::scope::Scope;
 use crate::site::{Site, is_ended, is_same};
 use early_forms::Sum;
-use sdg_base::{Name, Val};
+use sdg_base::{Name, TURNS_AT_START, Val};
 use std::alloc::{AllocError, Global};
-
-/// Each call starts with so many turns.
-const TURNS: u32 = 100_000;
 
 /// The site of the last access, the variables, and the turns left.
 #[derive(Drop)]
@@ -30,12 +28,12 @@ impl<'a> Machine<'a> {
         requires longs { All IsLong arguments.now }
         ensures site { result.site ≡ None }
         ensures scope { result.scope ≡ zip parameters.now arguments.now }
-        ensures turns { result.turns ≡ TURNS }
+        ensures turns { result.turns ≡ turns_at_start }
     {
         Machine {
             site: None,
             scope: Scope::new(alloc, parameters, arguments),
-            turns: TURNS,
+            turns: TURNS_AT_START,
         }
     }
 

@@ -7,10 +7,10 @@ use Rattle.sdg_base.specs.declared.port.Port.{Port as PortOf}
 use Rattle.placement.specs.declared.event.Event.{Event as EventOf}
 use Rattle.placement.specs.declared.event.Event.TheVariants as event
 use Rattle.run_text.specs.declared.error.ScheduleRule.{ScheduleRule}
-use Rattle.run_text.specs.declared.error.ScheduleRule.TheVariants.{Plain, Header, Event, Port, Number, Limit}
+use Rattle.run_text.specs.declared.error.ScheduleRule.TheVariants.{Spelling, Header, Event, Port, Number, Limit}
 use Rattle.run_text.specs.declared.event.EventWords.{EventWords}
 use Rattle.run_text.specs.declared.event.EventWords.TheVariants as w
-use Rattle.run_text.specs.Lines.{words, IsPlain}
+use Rattle.run_text.specs.Lines.{words, IsWellSpelled}
 use Rattle.run_text.specs.Schedules.{Words, take_words, event_words, port_text, Fits, IsHeaderForm, IsEventForm, TakeForm, SinkForm, HasStrangePort, StrangeReceiver, StrangeSender, StrangeResult, HasNoPick, IsEventLine, LaterBreaks, rule_number}
 use Rattle.run_text.specs.ScheduleReading.{coming, words_of, IsLeast, IsMisfit, IsEventOf, IsCellText, IsSenderText}
 use Rattle.run_text.proofs.Parts.{parts_some}
@@ -90,7 +90,7 @@ has_pick fields slots (event.Take to from pick) ws fits same h =
 has_pick fields slots (event.Sink from) ws fits same h = let both = sym same ∙ h.words in cc
 
 pub event_breaks_none : (fields : Words) (slots before : ℕ) (line : List ℕ) (e : EventOf) (rule : ScheduleRule) → IsEventLine fields slots line e → before < 1000000 → ¬ LaterBreaks fields slots before line rule
-event_breaks_none fields slots before line e Plain is room broken = broken is.plain
+event_breaks_none fields slots before line e Spelling is room broken = broken is.spelled
 event_breaks_none fields slots before line e Header is room broken = no_header fields e (words line) is.words broken
 event_breaks_none fields slots before line e Event is room broken = broken (has_form fields e (words line) is.words)
 event_breaks_none fields slots before line e Port is room broken = no_strange fields slots e (words line) is.fits is.words broken
@@ -99,32 +99,32 @@ event_breaks_none fields slots before line e Limit is room broken = omega arith
 
 -- ---- The least rule that a line breaks
 
-pub least_event : (fields : Words) (slots before : ℕ) (line : List ℕ) → IsPlain line → ¬ IsHeaderForm (words line) → ¬ IsEventForm (words line) → IsLeast (LaterBreaks fields slots before line) Event
-least_event fields slots before line plain later form = record { broken = form; least = below } where
+pub least_event : (fields : Words) (slots before : ℕ) (line : List ℕ) → IsWellSpelled line → ¬ IsHeaderForm (words line) → ¬ IsEventForm (words line) → IsLeast (LaterBreaks fields slots before line) Event
+least_event fields slots before line spelled later form = record { broken = form; least = below } where
   below : (other : ScheduleRule) → rule_number other < 3 → ¬ LaterBreaks fields slots before line other
-  below Plain lt broken = broken plain
+  below Spelling lt broken = broken spelled
   below Header lt broken = later broken
   below Event lt broken = omega arith
   below Port lt broken = omega arith
   below Number lt broken = omega arith
   below Limit lt broken = omega arith
 
-pub least_misfit : (fields : Words) (slots before : ℕ) (line : List ℕ) (found : EventWords) (rule : ScheduleRule) → IsPlain line → ¬ IsHeaderForm (words line) → words line ≡ words_of found → IsMisfit fields slots (words_of found) rule → IsLeast (LaterBreaks fields slots before line) rule
-least_misfit fields slots before line found Plain plain later same m = absurd m
-least_misfit fields slots before line found Header plain later same m = absurd m
-least_misfit fields slots before line found Event plain later same m = absurd m
-least_misfit fields slots before line found Limit plain later same m = absurd m
-least_misfit fields slots before line found Port plain later same m = record { broken = subst (HasStrangePort fields slots) (sym same) m; least = below } where
+pub least_misfit : (fields : Words) (slots before : ℕ) (line : List ℕ) (found : EventWords) (rule : ScheduleRule) → IsWellSpelled line → ¬ IsHeaderForm (words line) → words line ≡ words_of found → IsMisfit fields slots (words_of found) rule → IsLeast (LaterBreaks fields slots before line) rule
+least_misfit fields slots before line found Spelling spelled later same m = absurd m
+least_misfit fields slots before line found Header spelled later same m = absurd m
+least_misfit fields slots before line found Event spelled later same m = absurd m
+least_misfit fields slots before line found Limit spelled later same m = absurd m
+least_misfit fields slots before line found Port spelled later same m = record { broken = subst (HasStrangePort fields slots) (sym same) m; least = below } where
   below : (other : ScheduleRule) → rule_number other < 4 → ¬ LaterBreaks fields slots before line other
-  below Plain lt broken = broken plain
+  below Spelling lt broken = broken spelled
   below Header lt broken = later broken
   below Event lt broken = broken (subst IsEventForm (sym same) (form_of found))
   below Port lt broken = omega arith
   below Number lt broken = omega arith
   below Limit lt broken = omega arith
-least_misfit fields slots before line found Number plain later same m = record { broken = subst HasNoPick (sym same) m.0; least = below } where
+least_misfit fields slots before line found Number spelled later same m = record { broken = subst HasNoPick (sym same) m.0; least = below } where
   below : (other : ScheduleRule) → rule_number other < 5 → ¬ LaterBreaks fields slots before line other
-  below Plain lt broken = broken plain
+  below Spelling lt broken = broken spelled
   below Header lt broken = later broken
   below Event lt broken = broken (subst IsEventForm (sym same) (form_of found))
   below Port lt broken = m.1 (subst (HasStrangePort fields slots) same broken)
@@ -134,12 +134,12 @@ least_misfit fields slots before line found Number plain later same m = record {
 pub least_limit : (fields : Words) (slots before : ℕ) (line : List ℕ) (e : EventOf) → IsEventLine fields slots line e → 1000000 ≤ before → IsLeast (LaterBreaks fields slots before line) Limit
 least_limit fields slots before line e is full = record { broken = full; least = below } where
   below : (other : ScheduleRule) → rule_number other < 7 → ¬ LaterBreaks fields slots before line other
-  below Plain lt = event_breaks_none fields slots 0 line e Plain is (omega arith)
+  below Spelling lt = event_breaks_none fields slots 0 line e Spelling is (omega arith)
   below Header lt = event_breaks_none fields slots 0 line e Header is (omega arith)
   below Event lt = event_breaks_none fields slots 0 line e Event is (omega arith)
   below Port lt = event_breaks_none fields slots 0 line e Port is (omega arith)
   below Number lt = event_breaks_none fields slots 0 line e Number is (omega arith)
   below Limit lt = absurd (omega arith)
 
-pub event_line : (fields : Words) (slots : ℕ) (line : List ℕ) (ws : Words) (e : EventOf) → IsPlain line → words line ≡ ws → IsEventOf fields slots ws e → IsEventLine fields slots line e
-event_line fields slots line ws e plain same is = record { plain = plain; fits = is.fits; first = is.first; words = same ∙ is.words }
+pub event_line : (fields : Words) (slots : ℕ) (line : List ℕ) (ws : Words) (e : EventOf) → IsWellSpelled line → words line ≡ ws → IsEventOf fields slots ws e → IsEventLine fields slots line e
+event_line fields slots line ws e spelled same is = record { spelled = spelled; fits = is.fits; first = is.first; words = same ∙ is.words }

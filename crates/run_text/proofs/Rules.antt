@@ -12,10 +12,10 @@ use Rattle.sdg_base.specs.declared.call.Call.{Call}
 use Rattle.run_text.specs.declared.entrance.ValueType.{ValueType}
 use Rattle.run_text.specs.declared.entrance.Entrance.{Entrance}
 use Rattle.run_text.specs.declared.error.CallRule.{CallRule}
-use Rattle.run_text.specs.declared.error.CallRule.TheVariants.{Plain, Method, Count, Value, Limit}
+use Rattle.run_text.specs.declared.error.CallRule.TheVariants.{Spelling, Method, Count, Value, Limit}
 use Rattle.run_text.specs.declared.error.LineError.{LineError}
 use Rattle.run_text.specs.declared.error.LineError.TheVariants as e
-use Rattle.run_text.specs.Lines.{words, IsPlain}
+use Rattle.run_text.specs.Lines.{words, IsWellSpelled}
 use Rattle.run_text.specs.Values.{Fits, value_text}
 use Rattle.run_text.specs.Calls.{IsMethod, IsCall, IsNamed, HasMisfit, Breaks, number_of}
 use Rattle.run_text.specs.Reading.{IsLeastBreak, IsMisfit}
@@ -93,7 +93,7 @@ value_stands es before line d args named fit same broken =
 
 -- a call's line breaks no rule where there is room
 pub call_breaks_none : (es : List Entrance) (before : ℕ) (line : List ℕ) (call : Call) (rule : CallRule) → IsCall es line call → before < 2 ^ 16 → ¬ Breaks es before line rule
-call_breaks_none es before line call Plain c room broken = broken c.plain
+call_breaks_none es before line call Spelling c room broken = broken c.spelled
 call_breaks_none es before line call Method c room broken =
     method_stands es before line c.fits.entrance (is_named es call.method c.fits.entrance line (map value_text call.args) c.method c.words) broken
 call_breaks_none es before line call Count c room broken =
@@ -105,19 +105,19 @@ call_breaks_none es before line call Limit c room broken = omega arith
 
 -- ---- The least rule that a line breaks
 
-pub least_count : (es : List Entrance) (before : ℕ) (line : List ℕ) (d : Entrance) → IsPlain line → IsNamed es line d → length (words line) ≢ length d.parameters + 1 → IsLeastBreak es before line (e.Breaks Count)
-least_count es before line d plain named differs = ((d, named, differs), below) where
+pub least_count : (es : List Entrance) (before : ℕ) (line : List ℕ) (d : Entrance) → IsWellSpelled line → IsNamed es line d → length (words line) ≢ length d.parameters + 1 → IsLeastBreak es before line (e.Breaks Count)
+least_count es before line d spelled named differs = ((d, named, differs), below) where
   below : (other : CallRule) → number_of other < 3 → ¬ Breaks es before line other
-  below Plain lt broken = broken plain
+  below Spelling lt broken = broken spelled
   below Method lt broken = method_stands es before line d named broken
   below Count lt broken = omega arith
   below Value lt broken = omega arith
   below Limit lt broken = omega arith
 
-pub least_value : (es : List Entrance) (before : ℕ) (line : List ℕ) (d : Entrance) → IsPlain line → IsNamed es line d → length (words line) ≡ length d.parameters + 1 → HasMisfit d.parameters (drop 1 (words line)) → IsLeastBreak es before line (e.Breaks Value)
-least_value es before line d plain named same misfit = ((d, named, misfit), below) where
+pub least_value : (es : List Entrance) (before : ℕ) (line : List ℕ) (d : Entrance) → IsWellSpelled line → IsNamed es line d → length (words line) ≡ length d.parameters + 1 → HasMisfit d.parameters (drop 1 (words line)) → IsLeastBreak es before line (e.Breaks Value)
+least_value es before line d spelled named same misfit = ((d, named, misfit), below) where
   below : (other : CallRule) → number_of other < 4 → ¬ Breaks es before line other
-  below Plain lt broken = broken plain
+  below Spelling lt broken = broken spelled
   below Method lt broken = method_stands es before line d named broken
   below Count lt broken = count_stands es before line d named same broken
   below Value lt broken = omega arith
@@ -126,7 +126,7 @@ least_value es before line d plain named same misfit = ((d, named, misfit), belo
 pub least_limit : (es : List Entrance) (before : ℕ) (line : List ℕ) (call : Call) → IsCall es line call → 2 ^ 16 ≤ before → IsLeastBreak es before line (e.Breaks Limit)
 least_limit es before line call c full = (full, below) where
   below : (other : CallRule) → number_of other < 5 → ¬ Breaks es before line other
-  below Plain lt = call_breaks_none es 0 line call Plain c (omega arith)
+  below Spelling lt = call_breaks_none es 0 line call Spelling c (omega arith)
   below Method lt = call_breaks_none es 0 line call Method c (omega arith)
   below Count lt = call_breaks_none es 0 line call Count c (omega arith)
   below Value lt = call_breaks_none es 0 line call Value c (omega arith)
@@ -141,27 +141,27 @@ words_long line = length-slice_split (λ b. b == 32) line
 
 -- what is known of a line whose method was found
 pub record Found (es : List Entrance) (m : ℕ) (d : Entrance) (line : List ℕ) : Type 0 where
-  pub plain : IsPlain line
+  pub spelled : IsWellSpelled line
   pub method : IsMethod es m d
   pub others : List (List ℕ)
   pub parts : words line ≡ d.name ∷ others
 
-pub found : (es : List Entrance) (m : ℕ) (d : Entrance) (line name : List ℕ) (others : List (List ℕ)) → IsPlain line → IsMethod es m d × (d.name ≡ name) → words line ≡ name ∷ others → Found es m d line
-found es m d line name others plain method parts =
-    record { plain = plain; method = method.0; others = others; parts = parts ∙ ap (λ (n : List ℕ). n ∷ others) (sym method.1) }
+pub found : (es : List Entrance) (m : ℕ) (d : Entrance) (line name : List ℕ) (others : List (List ℕ)) → IsWellSpelled line → IsMethod es m d × (d.name ≡ name) → words line ≡ name ∷ others → Found es m d line
+found es m d line name others spelled method parts =
+    record { spelled = spelled; method = method.0; others = others; parts = parts ∙ ap (λ (n : List ℕ). n ∷ others) (sym method.1) }
 
 named : (es : List Entrance) (m : ℕ) (d : Entrance) (line : List ℕ) → Found es m d line → IsNamed es line d
 named es m d line f = is_named es m d line f.others f.method f.parts
 
 pub found_count : (es : List Entrance) (m : ℕ) (d : Entrance) (line : List ℕ) (n before : ℕ) → Found es m d line → n ≡ count_by (λ b. b == 32) line → n ≢ length d.parameters → IsLeastBreak es before line (e.Breaks Count)
 found_count es m d line n before f counted differs =
-    least_count es before line d f.plain (named es m d line f) (λ same. differs (omega (arith, words_long line)))
+    least_count es before line d f.spelled (named es m d line f) (λ same. differs (omega (arith, words_long line)))
 
 pub found_args : (es : List Entrance) (m : ℕ) (d : Entrance) (line : List ℕ) (n before : ℕ) (error : LineError) → Found es m d line → n ≡ count_by (λ b. b == 32) line → n ≡ length d.parameters → IsMisfit d.parameters (drop 1 (words line)) error → IsLeastBreak es before line error
 found_args es m d line n before e.Memory f counted same misfit = tt
 found_args es m d line n before (e.Breaks Value) f counted same misfit =
-    least_value es before line d f.plain (named es m d line f) (omega (arith, words_long line)) misfit
-found_args es m d line n before (e.Breaks Plain) f counted same misfit = absurd misfit
+    least_value es before line d f.spelled (named es m d line f) (omega (arith, words_long line)) misfit
+found_args es m d line n before (e.Breaks Spelling) f counted same misfit = absurd misfit
 found_args es m d line n before (e.Breaks Method) f counted same misfit = absurd misfit
 found_args es m d line n before (e.Breaks Count) f counted same misfit = absurd misfit
 found_args es m d line n before (e.Breaks Limit) f counted same misfit = absurd misfit
@@ -169,7 +169,7 @@ found_args es m d line n before (e.Breaks Limit) f counted same misfit = absurd 
 pub found_call : (es : List Entrance) (m : ℕ) (d : Entrance) (line : List ℕ) (args : List Val) → Found es m d line → AllZip Fits d.parameters args × (map value_text args ≡ drop 1 (words line)) → IsCall es line (record { method = m; args = args })
 found_call es m d line args f h =
     record {
-      plain = f.plain;
+      spelled = f.spelled;
       fits = record { entrance = d; method = f.method.entry; args = h.0 };
       method = f.method;
       words = f.parts ∙ ap (λ (ws : List (List ℕ)). d.name ∷ ws) (sym (h.1 ∙ ap (drop 1) f.parts));

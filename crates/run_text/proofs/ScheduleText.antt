@@ -10,9 +10,9 @@ use Rattle.placement.specs.declared.event.Header.{Header as HeaderOf}
 use Rattle.placement.specs.declared.event.Event.{Event as EventOf}
 use Rattle.placement.specs.declared.event.Schedule.{Schedule as ScheduleOf}
 use Rattle.run_text.specs.declared.error.ScheduleRule.{ScheduleRule}
-use Rattle.run_text.specs.declared.error.ScheduleRule.TheVariants.{Plain, Header, Event, Port, Number, Limit}
+use Rattle.run_text.specs.declared.error.ScheduleRule.TheVariants.{Spelling, Header, Event, Port, Number, Limit}
 use Rattle.run_text.specs.Lines.{is_skipped, said_lines}
-use Rattle.placement.specs.Plain.{plain_header}
+use Rattle.placement.specs.Defaults.{default_header}
 use Rattle.run_text.specs.Schedules.{Words, IsHeaderLine, IsEventLine, AreOf, IsSchedule, FirstBreaks, LaterBreaks, Breaks, BreaksAt, IsFirstScheduleBreak, rule_number}
 use Rattle.run_text.specs.ScheduleReading.{IsLeast, IsNextSaid}
 use Rattle.run_text.proofs.Arguments.{AllZip_push}
@@ -61,9 +61,9 @@ all_events fields ls i header events none so_far =
     let h = subst (λ (xs : Words). SoFar fields xs header events) (take_all i ls short) so_far in
     record { lines = subst (λ (xs : Words). AreOf fields xs (record { header = header; events = events })) (sym h.said) (h.is, h.each); few = h.few }
 
-pub no_lines : (fields ls : Words) → said_lines ls ≡ [] → IsSchedule fields ls (record { header = plain_header; events = [] })
+pub no_lines : (fields ls : Words) → said_lines ls ≡ [] → IsSchedule fields ls (record { header = default_header; events = [] })
 no_lines fields ls none =
-    record { lines = subst (λ (xs : Words). AreOf fields xs (record { header = plain_header; events = [] })) (sym none) (refl, refl); few = omega arith }
+    record { lines = subst (λ (xs : Words). AreOf fields xs (record { header = default_header; events = [] })) (sym none) (refl, refl); few = omega arith }
 
 -- ---- Lines of a schedule break no rule.
 
@@ -84,7 +84,7 @@ one_header line a b p q =
     made_header a.nodes a.slots a.stores a.width b.nodes b.slots b.stores b.width nodes slots stores width
 
 pub header_breaks_none : (line : List ℕ) (header : HeaderOf) (rule : ScheduleRule) → IsHeaderLine line header → ¬ FirstBreaks line rule
-header_breaks_none line header Plain is broken = broken is.plain
+header_breaks_none line header Spelling is broken = broken is.spelled
 header_breaks_none line header Header is broken = broken header is.range is.words
 header_breaks_none line header Event is broken = broken
 header_breaks_none line header Port is broken = broken
@@ -151,7 +151,7 @@ refused_at fields ls i line rule here said before least = record {
 }
 
 silent_breaks_none : (fields ls : Words) → said_lines ls ≡ [] → (place : ℕ) (rule : ScheduleRule) → ¬ BreaksAt fields ls place rule
-silent_breaks_none fields ls none place rule b = schedule_breaks_none fields ls (record { header = plain_header; events = [] }) place rule (no_lines fields ls none) b
+silent_breaks_none fields ls none place rule b = schedule_breaks_none fields ls (record { header = default_header; events = [] }) place rule (no_lines fields ls none) b
 
 pub refused_first : (fields ls : Words) (skipped : ℕ) (line : List ℕ) (more : Words) (rule : ScheduleRule) → IsNextSaid ls skipped line more → IsLeast (FirstBreaks line) rule → IsFirstScheduleBreak fields ls (skipped + 1) (rule_number rule)
 refused_first fields ls skipped line more rule h least =

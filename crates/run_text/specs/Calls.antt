@@ -6,10 +6,10 @@ use Rattle.sdg_base.specs.declared.call.Call.{Call}
 use Rattle.run_text.specs.declared.entrance.ValueType.{ValueType}
 use Rattle.run_text.specs.declared.entrance.Entrance.{Entrance}
 use Rattle.run_text.specs.declared.error.CallRule.{CallRule}
-use Rattle.run_text.specs.declared.error.CallRule.TheVariants.{Plain, Method, Count, Value, Limit}
+use Rattle.run_text.specs.declared.error.CallRule.TheVariants.{Spelling, Method, Count, Value, Limit}
 use Rattle.run_text.specs.declared.error.TextError.{TextError}
 use Rattle.run_text.specs.declared.error.TextError.TheVariants as t
-use Rattle.run_text.specs.Lines.{is_skipped, said_lines, words, IsPlain}
+use Rattle.run_text.specs.Lines.{is_skipped, said_lines, words, IsWellSpelled}
 use Rattle.run_text.specs.Values.{Fits, value_text, IsNoValue}
 
 -- The entry method has this number, and is the first of its name: in a class no two have one name, and where two had, the first would count.
@@ -35,7 +35,7 @@ call_text entrance args = join_with_byte 32 (call_words entrance args)
 
 -- the line is this call's
 pub record IsCall (entrances : List Entrance) (line : List ℕ) (call : Call) : Type 0 where
-  pub plain : IsPlain line
+  pub spelled : IsWellSpelled line
   pub fits : CallFits entrances call
   pub method : IsMethod entrances call.method fits.entrance
   pub words : words line ≡ call_words fits.entrance call.args
@@ -55,7 +55,7 @@ pub record AreCalls (entrances : List Entrance) (ls : List (List ℕ)) (calls : 
 
 -- the number of a rule in a report
 abbrev pub number_of : CallRule → ℕ
-number_of Plain = 1
+number_of Spelling = 1
 number_of Method = 2
 number_of Count = 3
 number_of Value = 4
@@ -78,7 +78,7 @@ pub record HasMisfit (parameters : List ValueType) (args : List (List ℕ)) : Ty
 
 -- a line before which there are so many calls breaks a rule
 abbrev pub Breaks : List Entrance → ℕ → List ℕ → CallRule → Type 0
-Breaks entrances before line Plain = ¬ IsPlain line
+Breaks entrances before line Spelling = ¬ IsWellSpelled line
 Breaks entrances before line Method = All (λ entrance. slice_get (words line) 0 ≢ Some entrance.name) entrances
 Breaks entrances before line Count = (entrance : Entrance) × IsNamed entrances line entrance × (length (words line) ≢ length entrance.parameters + 1)
 Breaks entrances before line Value = (entrance : Entrance) × IsNamed entrances line entrance × HasMisfit entrance.parameters (drop 1 (words line))

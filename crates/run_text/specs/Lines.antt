@@ -17,6 +17,6 @@ abbrev pub words : List ℕ → List (List ℕ)
 words line = slice_split (λ b. b == 32) line
 
 -- Printable ASCII alone, and its words with one space between each two and none at the ends, so that no word is empty.
-pub record IsPlain (line : List ℕ) : Type 0 where
+pub record IsWellSpelled (line : List ℕ) : Type 0 where
   pub bytes : All (λ b. (32 ≤ b) × (b ≤ 126)) line
   pub spaced : All (λ word. 0 < length word) (words line)

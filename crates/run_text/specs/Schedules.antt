@@ -7,13 +7,13 @@ use Rattle.placement.specs.declared.event.Header.{Header as HeaderOf}
 use Rattle.placement.specs.declared.event.Event.{Event as EventOf}
 use Rattle.placement.specs.declared.event.Event.TheVariants as event
 use Rattle.placement.specs.declared.event.Schedule.{Schedule}
-use Rattle.placement.specs.Plain.{plain_header}
+use Rattle.placement.specs.Defaults.{default_header}
 use Rattle.placement.specs.Ports.{IsCellAmong, IsSenderAmong}
 use Rattle.run_text.specs.declared.error.TextError.{TextError}
 use Rattle.run_text.specs.declared.error.TextError.TheVariants as t
 use Rattle.run_text.specs.declared.error.ScheduleRule.{ScheduleRule}
-use Rattle.run_text.specs.declared.error.ScheduleRule.TheVariants.{Plain, Header, Event, Port, Number, Limit}
-use Rattle.run_text.specs.Lines.{is_skipped, said_lines, words, IsPlain}
+use Rattle.run_text.specs.declared.error.ScheduleRule.TheVariants.{Spelling, Header, Event, Port, Number, Limit}
+use Rattle.run_text.specs.Lines.{is_skipped, said_lines, words, IsWellSpelled}
 use Rattle.run_text.specs.Numbers.{IsNumber}
 
 abbrev pub Words : Type 0
@@ -40,7 +40,7 @@ pub record IsInRange (h : HeaderOf) : Type 0 where
 
 -- the line is this header
 pub record IsHeaderLine (line : List ℕ) (h : HeaderOf) : Type 0 where
-  pub plain : IsPlain line
+  pub spelled : IsWellSpelled line
   pub range : IsInRange h
   pub words : words line ≡ header_words h
 
@@ -80,16 +80,16 @@ HasFirstFields fields (event.Sink from) = HasFirstField fields from
 
 -- the line is this event
 pub record IsEventLine (fields : Words) (slots : ℕ) (line : List ℕ) (e : EventOf) : Type 0 where
-  pub plain : IsPlain line
+  pub spelled : IsWellSpelled line
   pub fits : Fits (length fields) slots e
   pub first : HasFirstFields fields e
   pub words : words line ≡ event_words fields e
 
 -- ---- a schedule
 
--- the first line is the header and each other an event; no lines are the plain header alone
+-- the first line is the header and each other an event; no lines are the default header alone
 abbrev pub AreOf : Words → Words → Schedule → Type 0
-AreOf fields [] schedule = (schedule.header ≡ plain_header) × (schedule.events ≡ [])
+AreOf fields [] schedule = (schedule.header ≡ default_header) × (schedule.events ≡ [])
 AreOf fields (first ∷ rest) schedule = IsHeaderLine first schedule.header × AllZip (IsEventLine fields schedule.header.slots) rest schedule.events
 
 -- The schedule of the lines that aren't skipped.
@@ -101,7 +101,7 @@ pub record IsSchedule (fields ls : Words) (schedule : Schedule) : Type 0 where
 
 -- the number of a rule in a report
 abbrev pub rule_number : ScheduleRule → ℕ
-rule_number Plain = 1
+rule_number Spelling = 1
 rule_number Header = 2
 rule_number Event = 3
 rule_number Port = 4
@@ -147,13 +147,13 @@ pub record HasNoPick (ws : Words) : Type 0 where
 
 -- the first line that isn't skipped has to be a header in range
 abbrev pub FirstBreaks : List ℕ → ScheduleRule → Type 0
-FirstBreaks line Plain = ¬ IsPlain line
+FirstBreaks line Spelling = ¬ IsWellSpelled line
 FirstBreaks line Header = (h : HeaderOf) → IsInRange h → words line ≢ header_words h
 FirstBreaks line _ = ⊥
 
 -- each line behind it an event, where there are so many slots and so many events before
 abbrev pub LaterBreaks : Words → ℕ → ℕ → List ℕ → ScheduleRule → Type 0
-LaterBreaks fields slots before line Plain = ¬ IsPlain line
+LaterBreaks fields slots before line Spelling = ¬ IsWellSpelled line
 LaterBreaks fields slots before line Header = IsHeaderForm (words line)
 LaterBreaks fields slots before line Event = ¬ IsEventForm (words line)
 LaterBreaks fields slots before line Port = HasStrangePort fields slots (words line)

@@ -13,7 +13,7 @@ ghost use Rattle.run_text.specs.Index.{IsIndex};
 use crate::entrance::Entrance;
 use crate::error::{CallRule, LineError, TextError};
 use crate::index::{index_of, method_of};
-use crate::line::{first_line, is_plain, skips, spaces};
+use crate::line::{first_line, is_well_spelled, skips, spaces};
 use crate::part::cut;
 use crate::value::values_of;
 use sdg_base::{Call, Calls};
@@ -107,8 +107,8 @@ fn call_of(
     ensures found { IfOk result (IsCall entrances.now line.now) }
     ensures bad { IfErr result (λ error. (before : ℕ) → IsLeastBreak entrances.now before line.now error) }
 {
-    if !is_plain(line) {
-        return Err(LineError::Breaks(CallRule::Plain));
+    if !is_well_spelled(line) {
+        return Err(LineError::Breaks(CallRule::Spelling));
     }
     let (name, _) = cut(line, b' ');
     let Some((method, entrance)) = method_of(entrances, index, name) else {

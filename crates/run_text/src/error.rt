@@ -8,12 +8,13 @@ ghost use Rattle.run_text.specs.declared.error.LineError.TheVariants as line;
 ghost use Rattle.run_text.specs.declared.error.TextError.TheVariants as text;
 
 use std::alloc::AllocError;
+use thiserror::Error;
 
 /// A rule of a line of calls. The rules are judged in this order.
 #[derive(Clone, Copy, Debug, PartialEq, Eq)]
 pub enum CallRule {
     /// The bytes are printable ASCII, and single spaces stand between words alone.
-    Plain,
+    Spelling,
     /// The first word is the name of an entry method.
     Method,
     /// There are as many arguments as the method has parameters.
@@ -30,7 +31,7 @@ impl CallRule {
         ensures { result ≡ number_of self }
     {
         match self {
-            CallRule::Plain => 1,
+            CallRule::Spelling => 1,
             CallRule::Method => 2,
             CallRule::Count => 3,
             CallRule::Value => 4,
@@ -43,7 +44,7 @@ impl CallRule {
 #[derive(Clone, Copy, Debug, PartialEq, Eq)]
 pub enum ScheduleRule {
     /// The bytes are printable ASCII, and single spaces stand between words alone.
-    Plain,
+    Spelling,
     /// The first line is a header with its numbers in range, and no later line is a header.
     Header,
     /// The first word is a known event, and the event has as many words.
@@ -62,7 +63,7 @@ impl ScheduleRule {
         ensures { result ≡ rule_number self }
     {
         match self {
-            ScheduleRule::Plain => 1,
+            ScheduleRule::Spelling => 1,
             ScheduleRule::Header => 2,
             ScheduleRule::Event => 3,
             ScheduleRule::Port => 4,
@@ -73,9 +74,11 @@ impl ScheduleRule {
 }
 
 /// Why a text could not be read. Lines count from 1, skipped ones too, and rules from 1.
-#[derive(Clone, Copy, Debug, PartialEq, Eq)]
+#[derive(Clone, Copy, Debug, PartialEq, Eq, Error)]
 pub enum TextError {
+    #[error("line {line} breaks rule {rule}")]
     Bad { line: u32, rule: u8 },
+    #[error("out of memory")]
     Memory,
 }
 

@@ -8,7 +8,7 @@ ghost use Rattle.run_text.specs.ScheduleReading.{coming, words_of, IsLeast, IsEv
 
 use crate::error::ScheduleRule;
 use crate::header::has_header_form;
-use crate::line::is_plain;
+use crate::line::is_well_spelled;
 use crate::number::number_within;
 use crate::part::cut;
 use crate::port::{cell_of, sender_of};
@@ -46,8 +46,8 @@ pub(crate) fn event_of(
     ensures room { OnOk result (before < 1000000) }
     ensures bad { IfErr result (IsLeast (LaterBreaks fields.now slots before line.now)) }
 {
-    if !is_plain(line) {
-        return Err(ScheduleRule::Plain);
+    if !is_well_spelled(line) {
+        return Err(ScheduleRule::Spelling);
     }
     if has_header_form(line) {
         return Err(ScheduleRule::Header);

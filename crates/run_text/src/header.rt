@@ -7,7 +7,7 @@ ghost use Rattle.run_text.specs.Schedules.{form_words, header_words, IsInRange, 
 ghost use Rattle.run_text.specs.ScheduleReading.{IsLeast};
 
 use crate::error::ScheduleRule;
-use crate::line::is_plain;
+use crate::line::is_well_spelled;
 use crate::number::{is_number, number_within};
 use crate::part::cut;
 use crate::word::labelled;
@@ -27,8 +27,8 @@ pub(crate) fn header_of(line: &[u8]) -> Result<Header, ScheduleRule>
     ensures found { IfOk result (IsHeaderLine line.now) }
     ensures bad { IfErr result (IsLeast (FirstBreaks line.now)) }
 {
-    if !is_plain(line) {
-        return Err(ScheduleRule::Plain);
+    if !is_well_spelled(line) {
+        return Err(ScheduleRule::Spelling);
     }
     match header_in(line) {
         Some(header) => Ok(header),

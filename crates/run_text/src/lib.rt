@@ -19,8 +19,3 @@ pub use calls::read_calls;
 pub use entrance::{Entrance, ValueType};
 pub use error::{CallRule, ScheduleRule, TextError};
 pub use schedule::read_schedule;
-
-#[cfg(test)]
-mod schedule_tests;
-#[cfg(test)]
-mod tests;

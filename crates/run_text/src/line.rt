@@ -3,7 +3,7 @@
 ghost use Rattle.std.specs.Prelude.{◌≡◌, ◌<◌, ◌+◌, ◌==◌, ◌↔◌, [], ◌∷◌, length, count_by, IsTrue, MatchOption};
 ghost use Rattle.std.specs.List.{AllByRecursion};
 ghost use Rattle.std.specs.Str.Lines.{lines, strip_carriage_return};
-ghost use Rattle.run_text.specs.Lines.{is_skipped, words, IsPlain};
+ghost use Rattle.run_text.specs.Lines.{is_skipped, words, IsWellSpelled};
 
 use crate::part::cut;
 
@@ -43,8 +43,8 @@ pub(crate) fn skips(line: &[u8]) -> bool
 }
 
 /// Whether a line has printable bytes alone, and single spaces between words alone.
-pub(crate) fn is_plain(line: &[u8]) -> bool
-    ensures { IsTrue result ↔ IsPlain line.now }
+pub(crate) fn is_well_spelled(line: &[u8]) -> bool
+    ensures { IsTrue result ↔ IsWellSpelled line.now }
 {
     line.iter().all(|b| (32..=126).contains(b)) && is_spaced(line)
 }

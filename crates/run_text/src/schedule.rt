@@ -58,7 +58,7 @@ fn schedule_of(alloc: Global, fields: &[Name], bytes: &[u8]) -> Result<Schedule,
 {
     let index = field_index_of(alloc, fields)?;
     let Some((skipped, first, mut rest)) = next_said(bytes) else {
-        return Ok(Schedule::plain(alloc));
+        return Ok(Schedule::by_default(alloc));
     };
     let mut number = skipped + 1;
     let header = match header_of(first) {

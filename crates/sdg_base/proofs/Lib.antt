@@ -1,1 +1,4 @@
+pub mod Laws
+pub mod Machine
 pub mod Ports
+pub mod Wrapping

@@ -1,10 +1,10 @@
 //! Java's operators on numbers.
 
-ghost use Rattle.std.specs.Prelude.{◌≡◌, ◌+ℤ◌};
-ghost use Rattle.std.specs.Int.{int_wrap, w32, w64};
+ghost use Rattle.std.specs.Prelude.{◌≡◌};
 ghost use Rattle.sdg_base.specs.Operators.{IsNumber, widened, sum_of};
 
 use crate::val::Val;
+use crate::{ints, longs};
 
 /// A binary operator (JLS 15.17 to 15.24).
 #[derive(Clone, Copy, Debug, PartialEq, Eq)]
@@ -59,24 +59,10 @@ pub fn add(left: &Val, right: &Val) -> Val
     ensures { result ≡ sum_of left.now right.now }
 {
     match (left, right) {
-        (Val::Int(a), Val::Int(b)) => Val::Int(add_ints(*a, *b)),
-        (Val::Int(a), Val::Long(b)) => Val::Long(add_longs(i64::from(*a), *b)),
-        (Val::Long(a), Val::Int(b)) => Val::Long(add_longs(*a, i64::from(*b))),
-        (Val::Long(a), Val::Long(b)) => Val::Long(add_longs(*a, *b)),
+        (Val::Int(a), Val::Int(b)) => Val::Int(ints::add(*a, *b)),
+        (Val::Int(a), Val::Long(b)) => Val::Long(longs::add(i64::from(*a), *b)),
+        (Val::Long(a), Val::Int(b)) => Val::Long(longs::add(*a, i64::from(*b))),
+        (Val::Long(a), Val::Long(b)) => Val::Long(longs::add(*a, *b)),
         _ => unreachable!(),
     }
-}
-
-#[tactic(auto, using(std::proofs::lemmas::Int::wraps))]
-fn add_ints(a: i32, b: i32) -> i32
-    ensures { result ≡ int_wrap w32 (a +ℤ b) }
-{
-    a.wrapping_add(b)
-}
-
-#[tactic(auto, using(std::proofs::lemmas::Int::wraps))]
-fn add_longs(a: i64, b: i64) -> i64
-    ensures { result ≡ int_wrap w64 (a +ℤ b) }
-{
-    a.wrapping_add(b)
 }

@@ -1,11 +1,14 @@
 //! Words of stable storage, and of the classes that hold state.
 
 use sqlite_items::Items;
+use thiserror::Error;
 
 /// Why a call of the outside failed: it failed itself, or there was no memory for it.
-#[derive(Clone, Copy, Debug, PartialEq, Eq)]
+#[derive(Clone, Copy, Debug, PartialEq, Eq, Error)]
 pub enum KeepError {
+    #[error("the call failed")]
     Failed,
+    #[error("out of memory")]
     Memory,
 }
 

@@ -1,2 +1,4 @@
 pub mod Written
-pub mod Fronts
+pub mod Prefixes
+pub mod ReadOn
+pub mod InOrder

@@ -13,9 +13,9 @@ fault_of (Err TooLong) = Ok tt
 fault_of (Err Memory) = Err keep.Memory
 
 -- the bytes are the first ones of the file, where it is told
-abbrev pub IsFrontOf : Option (List ℕ) → List ℕ → Type 0
-IsFrontOf None bytes = Unit {0}
-IsFrontOf (Some file) bytes = (length bytes ≤ length file) × (bytes ≡ take (length bytes) file)
+abbrev pub IsPrefixOf : Option (List ℕ) → List ℕ → Type 0
+IsPrefixOf None bytes = Unit {0}
+IsPrefixOf (Some file) bytes = (length bytes ≤ length file) × (bytes ≡ take (length bytes) file)
 
 -- why a file was not read whole where a read of it gave this fault
 abbrev pub read_error_of : KeepError → ReadError

@@ -5,7 +5,9 @@ ghost use Rattle.std.specs.String.{string_bytes};
 ghost use Rattle.std.specs.Option.{option_copied};
 ghost use Rattle.sdg_keep.specs.Faults.{HasCause};
 ghost use Rattle.sdg_keep.specs.Named.{file_of, bytes_of};
-ghost use Rattle.sdg_keep.specs.Reads.{PutsBytes, NamesFailure, count_put, with_put};
+ghost use Rattle.sdg_keep.specs.declared.read_call.ReadCall.{ReadCall};
+ghost use Rattle.sdg_keep.specs.Readings.{NotesRead};
+ghost use Rattle.sdg_keep.specs.Reads.{PutsBytes, count_put, with_put};
 
 use sdg_base::{Bytes, KeepError, Name};
 use sqlite_items::Items;
@@ -49,7 +51,9 @@ pub(crate) fn put_bytes(file: &[u8], from: u64, most: usize, into: &mut [u8]) ->
     count
 }
 
-/// Files that are read by name. Where the bytes of a file aren't told, no clause speaks of them.
+/// Files that are read by name. Where the bytes of a file aren't told, no clause speaks of them. Which
+/// reads were made can be told of any files, since it says what they were asked and answered, and not
+/// what they hold.
 pub trait Files {
     /// How often a read has failed, at most 2^64 - 1. A count that stands there stays.
     ghost faults: { Self → ℕ };
@@ -57,8 +61,8 @@ pub trait Files {
     /// The bytes of the file of a name, where they are told.
     ghost content: { Self → List ℕ → Option (List ℕ) };
 
-    /// The name of the last read that failed, where one has failed and it is told.
-    ghost last_failed: { Self → Option (List ℕ) };
+    /// The reads made so far, in their order, but for those that had no memory, where they are told.
+    ghost reads: { Self → Option (List ReadCall) };
 
     /// Puts bytes of the file, from the one numbered `from` on (counted from 0, at most 2^24), at the
     /// start of `into`, and answers how many. It answers 0 exactly where the file has no byte there.
@@ -73,5 +77,5 @@ pub trait Files {
             PutsBytes file from into.new n)) }
         ensures same { (other : List ℕ) → content self.new other ≡ content self.old other }
         ensures cause { HasCause (faults self.old) (faults self.new) result }
-        ensures failed { NamesFailure (string_bytes name.now) (last_failed self.old) (last_failed self.new) result };
+        ensures noted { NotesRead (reads self.old) (reads self.new) (string_bytes name.now) from (length into.old) result };
 }

@@ -2,18 +2,22 @@
 //! its faults, the forms of them that stand in memory, and the loops that read and write whole.
 #![tactic(auto)]
 
+mod asked;
 mod failing;
 mod files;
 mod memory_files;
 mod memory_sink;
+mod read_call;
 mod sink;
 mod sure;
 mod whole;
 
+pub use asked::{Asked, FilesError, read_files};
 pub use failing::Fails;
 pub use files::{FileList, Files};
-pub use memory_files::{MemoryFiles, ReadCall};
+pub use memory_files::MemoryFiles;
 pub use memory_sink::MemorySink;
+pub use read_call::{ReadCall, note_read};
 pub use sink::Sink;
 pub use sure::{SureFiles, SureSink};
 pub use whole::{ReadError, read_whole, write_whole};

@@ -9,7 +9,8 @@ use crate::files::{FileList, Files, bytes_at, put_bytes};
 use crate::sink::Sink;
 use sdg_base::KeepError;
 
-/// Files in memory that are always read. A name that none of them has reads as an empty file.
+/// Files in memory that are always read, and tell no reads. A name that none of them has reads as an
+/// empty file.
 #[derive(Debug, Drop)]
 pub struct SureFiles {
     pub files: FileList,
@@ -29,7 +30,7 @@ impl Files for SureFiles {
 
     ghost content = { λ s name. Some (bytes_of s.files name) };
 
-    ghost last_failed = { λ _. None };
+    ghost reads = { λ _. None };
 
     fn read(&mut self, name: &String, from: u64, into: &mut [u8]) -> Result<usize, KeepError>
         requires { 0 < length into.old }

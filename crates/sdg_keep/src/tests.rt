@@ -1,3 +1,5 @@
+ghost use Rattle.std.specs.Prelude.{◌≤◌, IfOk};
+
 use super::*;
 use sdg_base::{Bytes, KeepError, Name};
 use std::alloc::{AllocError, Global};
@@ -41,10 +43,13 @@ fn told(answer: &Result<Bytes, ReadError>, bytes: &[u8]) -> Result<(usize, bool)
     }
 }
 
-fn sees_read_of_a(rt: &impl Abort, files: &MemoryFiles, faults: u64) {
-    assert_eq!(rt; files.faults, faults);
-    let name = files.last_failed.as_ref();
-    assert!(rt; name.is_some_and(|name| name.as_slice() == b"a".as_slice()));
+/// The record of the reads so far: they are of this name, and these are their places, rooms and answers.
+fn notes(rt: &impl Abort, files: &MemoryFiles, name: &[u8], calls: &[(u64, usize, Option<usize>)]) {
+    assert_eq!(rt; files.calls.len(), calls.len());
+    for (call, want) in files.calls.as_slice().iter().zip(calls) {
+        assert_eq!(rt; call.name.as_slice(), name);
+        assert_eq!(rt; (call.from, call.room, call.gave), *want);
+    }
 }
 
 #[test]
@@ -92,11 +97,10 @@ fn each_read_fails_in_turn(rt: HostRuntime) -> Result<(), Fail> {
             files.most = 1;
             let answer = read_whole(alloc, &mut files, &name, 5);
             assert_eq!(rt; told(&answer, &[]), Err(ReadError::Failed), "call {number}");
-            sees_read_of_a(&rt, &files, 1);
-            assert_eq!(rt; files.calls.len() as u64, number);
+            assert_eq!(rt; (files.faults, files.calls.len() as u64), (1, number));
             let again = read_whole(alloc, &mut files, &name, 5);
             assert_eq!(rt; told(&again, bytes.as_slice()), Ok((5, true)));
-            sees_read_of_a(&rt, &files, 1);
+            assert_eq!(rt; files.faults, 1);
         }
     }
     Ok(())
@@ -113,6 +117,13 @@ fn a_failed_read_may_put_bytes(rt: HostRuntime) -> Result<(), Fail> {
         assert_eq!(rt; files.read(&name, 1, &mut buffer), Err(KeepError::Failed));
         assert_eq!(rt; buffer, want);
         assert_eq!(rt; files.read(&name, 3, &mut buffer), Ok(0));
+        assert_eq!(rt; files.read(&name, 1, &mut buffer), Ok(2));
+        notes(
+            &rt,
+            &files,
+            b"a",
+            &[(1, 3, None), (3, 3, Some(0)), (1, 3, Some(2))],
+        );
     }
     Ok(())
 }
@@ -127,8 +138,7 @@ fn a_missing_file_fails_or_is_empty(rt: HostRuntime) -> Result<(), Fail> {
         assert_eq!(rt; told(&answer, &[]), Err(ReadError::Failed));
         assert_eq!(rt; files.faults, faults);
     }
-    let last = files.last_failed.as_ref();
-    assert!(rt; last.is_some_and(|name| name.as_slice() == b"c".as_slice()));
+    notes(&rt, &files, b"c", &[(0, 6, None), (0, 6, None)]);
     let mut sure = SureFiles::new(files_with(alloc, &[1])?);
     let answer = read_whole(alloc, &mut sure, &name, 5);
     assert_eq!(rt; told(&answer, &[]), Ok((0, true)));
@@ -172,6 +182,45 @@ fn each_write_fails_in_turn(rt: HostRuntime) -> Result<(), Fail> {
             assert_eq!(rt; write_whole(&mut sink, &[7]), Ok(()));
             assert_eq!(rt; sink.written.len(), taken + 1);
         }
+    }
+    Ok(())
+}
+
+/// A file that is asked for.
+fn asked(alloc: Global, name: &str, limit: u8) -> Result<Asked, AllocError>
+    ensures { IfOk result (λ asked. asked.limit ≤ 16777216) }
+{
+    Ok(Asked {
+        name: String::from_str(alloc, name)?,
+        limit: u64::from(limit),
+    })
+}
+
+#[test]
+fn files_are_read_in_turn(rt: HostRuntime) -> Result<(), Fail> {
+    let alloc = rt.alloc();
+    for (first, second, want) in [
+        (("a", 3), ("b", 1), "3 and 1"),
+        (("b", 1), ("a", 3), "1 and 3"),
+        (("c", 3), ("d", 1), "cannot read: c"),
+        (("a", 3), ("c", 1), "cannot read: c"),
+        (("a", 2), ("c", 1), "too long: a"),
+        (("b", 1), ("a", 2), "too long: a"),
+    ] {
+        let list = files_with(alloc, &[1, 2, 3])?;
+        let mut files = MemoryFiles::new(alloc, list, Fails::new(alloc));
+        let names = [
+            asked(alloc, first.0, first.1)?,
+            asked(alloc, second.0, second.1)?,
+        ];
+        let told = match read_files(alloc, &mut files, &names) {
+            Ok(texts) => match texts.as_slice() {
+                [one, other] => format!(in alloc; "{} and {}", one.len(), other.len())?,
+                _ => String::new(alloc),
+            },
+            Err(error) => format!(in alloc; "{error}")?,
+        };
+        assert_eq!(rt; told.as_str(), want);
     }
     Ok(())
 }

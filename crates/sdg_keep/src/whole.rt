@@ -3,8 +3,8 @@
 ghost use Rattle.std.specs.Prelude.{◌≡◌, ℕ, ◌+◌, ◌<◌, ◌≤◌, List, length, vec_len, Ok, Err, IfOk, OnOk, IfSome};
 ghost use Rattle.std.specs.String.{string_bytes};
 ghost use Rattle.sdg_keep.specs.Faults.{HasCause};
-ghost use Rattle.sdg_keep.specs.Reads.{NamesFailure};
-ghost use Rattle.sdg_keep.specs.Wholes.{fault_of, IsFrontOf};
+ghost use Rattle.sdg_keep.specs.Readings.{ReadsOn, ReadsWhole};
+ghost use Rattle.sdg_keep.specs.Wholes.{fault_of, IsPrefixOf};
 ghost use Rattle.sdg_keep.specs.Writes.{WritesWhole};
 ghost use Rattle.sdg_base.specs.declared.store.KeepError.TheVariants as keep;
 ghost use Rattle.sdg_keep.specs.declared.whole.ReadError.TheVariants as read;
@@ -13,13 +13,17 @@ use crate::files::Files;
 use crate::sink::Sink;
 use sdg_base::{Bytes, KeepError};
 use std::alloc::{AllocError, Global};
+use thiserror::Error;
 
 /// Why a file was not read whole: a read failed, it has more bytes than its limit, or there was no
 /// memory for them.
-#[derive(Clone, Copy, Debug, PartialEq, Eq)]
+#[derive(Clone, Copy, Debug, PartialEq, Eq, Error)]
 pub enum ReadError {
+    #[error("a read of the file failed")]
     Failed,
+    #[error("the file is too long")]
     TooLong,
+    #[error("out of memory")]
     Memory,
 }
 
@@ -70,18 +74,21 @@ fn read_more<F: Files>(
     ensures count { IfOk result (λ n. vec_len bytes.new ≡ vec_len bytes.old + n) }
     ensures limited { OnOk result (vec_len bytes.new ≤ limit + 1) }
     ensures front { OnOk result (
-        IsFrontOf (F.content files.old (string_bytes name.now)) bytes.old.items
-        → IsFrontOf (F.content files.old (string_bytes name.now)) bytes.new.items) }
+        IsPrefixOf (F.content files.old (string_bytes name.now)) bytes.old.items
+        → IsPrefixOf (F.content files.old (string_bytes name.now)) bytes.new.items) }
     ensures ended { result ≡ Ok 0 →
         IfSome (F.content files.old (string_bytes name.now)) (λ file. length file ≤ vec_len bytes.old) }
 
     ensures same { (other : List ℕ) → F.content files.new other ≡ F.content files.old other }
     ensures cause { HasCause (F.faults files.old) (F.faults files.new) result }
-    ensures failed { NamesFailure (string_bytes name.now) (F.last_failed files.old) (F.last_failed files.new) result }
+    ensures reads { ReadsOn (F.reads files.old) (F.reads files.new) (string_bytes name.now) limit (vec_len bytes.old) result }
 {
     let start = bytes.len();
     let room = buffer.len().min(limit as usize + 1 - start);
     let count = files.read(name, start as u64, buffer.split_at_mut(room).0)?;
+    if count == 0 {
+        return Ok(0);
+    }
     match bytes.extend_from_slice(buffer.split_at(count).0) {
         Ok(()) => Ok(count),
         Err(_) => Err(KeepError::Memory),
@@ -106,7 +113,7 @@ pub fn read_whole<F: Files>(
 
     ensures same { (other : List ℕ) → F.content files.new other ≡ F.content files.old other }
     ensures cause { HasCause (F.faults files.old) (F.faults files.new) (fault_of result) }
-    ensures failed { NamesFailure (string_bytes name.now) (F.last_failed files.old) (F.last_failed files.new) (fault_of result) }
+    ensures reads { ReadsWhole (F.reads files.old) (F.reads files.new) (string_bytes name.now) limit result }
 {
     let mut buffer = make_buffer(alloc, PIECE)?;
     let mut bytes = Vec::new(alloc);

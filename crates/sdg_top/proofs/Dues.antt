@@ -1,85 +1,130 @@
 -- What reading the files makes due, and what a due answer says of their faults.
-use Rattle.std.proofs.Common.{◌≡◌, ◌≢◌, ℕ, List, take, drop, Option, Some, None, refl, sym, subst, ◌∙◌, inl, inr}
-use Rattle.std.specs.Prelude.{◌⊎◌, IfSome}
+use Rattle.std.proofs.Common.{◌≡◌, ◌≢◌, ℕ, ◌+◌, ◌-◌, ◌^◌, ◌<◌, ◌≤◌, List, [], ◌∷◌, ◌++◌, take, drop, length, min, Option, Some, None, refl, sym, ap, subst, ◌∙◌, inl, inr, arith}
+use Rattle.std.specs.Prelude.{◌⊎◌, IfSome, IfOk, Result}
+use Rattle.std.specs.declared.alloc.AllocError.{AllocError}
+use Rattle.std.proofs.lemmas.Result.{IfOk-weaker}
 use Rattle.std.proofs.lemmas.List.{take-append-drop}
 use Rattle.sdg_base.specs.declared.call.Call.{Call}
 use Rattle.early_forms.specs.declared.straight.StraightClass.{StraightClass}
+use Rattle.sdg_keep.specs.declared.read_call.ReadCall.{ReadCall}
 use Rattle.sdg_keep.specs.Faults.{Rises}
-use Rattle.sdg_keep.specs.Writes.{AppendsFront}
+use Rattle.sdg_keep.specs.Writes.{AppendsPrefix}
+use Rattle.sdg_keep.specs.Endings.{Ending, AllRead, Unreadable, TooLong, CutShort, IsLong, AreRead, Nothing, First, ReadsOf, Whole, Exceeds, Between, Told, Reads}
+use Rattle.sdg_keep.proofs.Written.{Appends-none}
 use Rattle.sdg_top.specs.declared.answer.Answer.{Answer}
-use Rattle.sdg_top.specs.declared.run.Read.TheVariants.{Not, Whole}
 use Rattle.sdg_top.specs.declared.status.Status.{Status}
 use Rattle.sdg_top.specs.declared.status.Status.TheVariants as status
 use Rattle.sdg_top.specs.Answers.{unreadable_line, too_long_line}
 use Rattle.sdg_top.specs.Accepted.{Text}
-use Rattle.sdg_top.specs.Due.{class_limit, calls_limit, DueForSchedule, RefusesSchedule, ReportedSchedule, ReportedPlain, DueForCalls, RefusesCalls, TakesCalls, DueForTexts, RefusesClass, TakesClass, run_words, Told, WasRead, WasReadOf, IsLong, Due, NoCommand, UnreadableClass, UnreadableCalls, UnreadableSchedule, LongClass, LongCalls, LongSchedule, AllRead, DueForLast, UnreadableLast, LongLast, ReadLast, IsToldOf, IsGiven, WritesFront}
-use Rattle.sdg_top.specs.Read.{ReadGives}
+use Rattle.sdg_top.specs.Due.{DueForSchedule, RefusesSchedule, ReportedSchedule, ReportedDefault, DueForCalls, RefusesCalls, TakesCalls, DueForTexts, RefusesClass, TakesClass, run_words, run_files, run_texts, AskFor, Due, NoCommand, UnreadableFile, LongFile, RunAnswers, AreTold, NoFault, IsAnswer, WritesPrefix}
+use Rattle.sdg_top.specs.Read.{SaysWhy, NoRead, NoRoom, AreRunTexts}
 
 due_as : (words : List Text) (files : Told) (s s' : Status) (t t' : Text) → s' ≡ s → t' ≡ t → Due words files s t → Due words files s' t'
 due_as words files s s' t t' p q d = subst (λ (x : Status). Due words files x t') (sym p) (subst (λ (y : Text). Due words files s y) (sym q) d)
 
--- the class file was not read
-pub class_unread : (class calls : Text) (schedule : Option Text) (files : Told) (a : Answer) → ReadGives class class_limit files (Not a) → Due (run_words class calls schedule) files a.status a.text
-class_unread class calls schedule files a (inl r) = due_as (run_words class calls schedule) files status.Read a.status (unreadable_line class) a.text r.0 r.1 (UnreadableClass class calls schedule refl r.2 r.3)
-class_unread class calls schedule files a (inr r) = due_as (run_words class calls schedule) files status.TooLong a.status (too_long_line class) a.text r.0 r.1 (LongClass class calls schedule refl r.2 r.3)
+-- the same files by another list
+pub reads_as : (files : Told) (asked others : List (Text × ℕ)) (ending : Ending) → asked ≡ others → Reads files asked ending → Reads files others ending
+reads_as files asked others ending same reads = subst (λ (w : List (Text × ℕ)). Reads files w ending) same reads
 
--- what the files told before the calls file was read, and then
-module _ (class calls class_text : Text) (schedule : Option Text) (content later : Text → Option Text) (before between after : ℕ) (last_failed : Option Text) where
-  abbrev pub whole : Told
-  whole = record { content = content; before = before; after = after; last_failed = last_failed }
+-- why files were not read is the answer that is due
+pub due_unread : (words : List Text) (files : Told) (asked : List (Text × ℕ)) (ending : Ending) (a : Answer) → AskFor words asked → Reads files asked ending → SaysWhy a ending → Due words files a.status a.text
+due_unread words files asked ending a ask reads (NoRead name s t) = due_as words files status.Read a.status (unreadable_line name) a.text s t (UnreadableFile asked name ask reads)
+due_unread words files asked ending a ask reads (NoRoom name s t) = due_as words files status.TooLong a.status (too_long_line name) a.text s t (LongFile asked name ask reads)
 
-  abbrev pub second : Told
-  second = record { content = later; before = between; after = after; last_failed = last_failed }
+-- nothing was read, of files that a call has left as they were
+module _ (content : Text → Option Text) (faults : ℕ) (reads : Option (List ReadCall)) where
+  abbrev pub left_alone : Told
+  left_alone = record { content = content; faults_before = faults; faults_after = faults; reads_before = reads; reads_after = reads }
 
-  -- the calls file was not read
-  pub calls_unread : (a : Answer) → later calls ≡ content calls → between ≡ before → WasRead (content class) class_limit class_text → ReadGives calls calls_limit second (Not a) → Due (run_words class calls schedule) whole a.status a.text
-  calls_unread a same stays read (inl r) =
-      due_as (run_words class calls schedule) whole status.Read a.status (unreadable_line calls) a.text r.0 r.1 (UnreadableCalls class calls schedule class_text refl read (subst (λ (n : ℕ). Rises n after) stays r.2) r.3)
-  calls_unread a same stays read (inr r) =
-      due_as (run_words class calls schedule) whole status.TooLong a.status (too_long_line calls) a.text r.0 r.1 (LongCalls class calls schedule class_text refl (r.2 ∙ stays) read (subst (λ (o : Option Text). IsLong o calls_limit) same r.3))
+  pub reads_none : Reads left_alone [] (AllRead [])
+  reads_none = record { calls = []; made = Appends-none reads; are = Whole [] Nothing; faults = refl }
 
-  -- the schedule's file was read after both, if one is named
-  pub schedule_due : (calls_text : Text) (s : Status) (t : Text) → ((name : Text) → later name ≡ content name) → between ≡ before → WasRead (content class) class_limit class_text → WasRead (content calls) calls_limit calls_text
-      → DueForLast schedule class_text calls_text second s t → Due (run_words class calls schedule) whole s t
-  schedule_due calls_text s t same stays read read2 (UnreadableLast name is rises last) =
-      subst (λ (o : Option Text). Due (run_words class calls o) whole status.Read (unreadable_line name)) (sym is)
-      (UnreadableSchedule class calls name class_text calls_text refl read read2 (subst (λ (n : ℕ). Rises n after) stays rises) last)
-  schedule_due calls_text s t same stays read read2 (LongLast name is still long) =
-      subst (λ (o : Option Text). Due (run_words class calls o) whole status.TooLong (too_long_line name)) (sym is)
-      (LongSchedule class calls name class_text calls_text refl (still ∙ stays) read read2 (subst (λ (o : Option Text). IsLong o calls_limit) (same name) long))
-  schedule_due calls_text s t same stays read read2 (ReadLast schedule_text answer text still of d) =
-      AllRead class calls schedule class_text calls_text schedule_text text answer refl (still ∙ stays) read read2 (of_first schedule schedule_text same of) d
-    where
-      of_first : (name : Option Text) (text : Option Text) → ((name : Text) → later name ≡ content name) → WasReadOf later name text → WasReadOf content name text
-      of_first None None same of = tt
-      of_first None (Some text) same of = absurd of
-      of_first (Some name) None same of = absurd of
-      of_first (Some name) (Some text) same of = subst (λ (o : Option Text). WasRead o calls_limit text) (same name) of
+  pub reads_cut : (files : List (Text × ℕ)) → Reads left_alone files CutShort
+  reads_cut files = record { calls = []; made = Appends-none reads; are = Between [] files [] refl Nothing; faults = refl }
 
--- the schedule's file was not read
-pub last_unread : (name class_text calls_text : Text) (files : Told) (a : Answer) → ReadGives name calls_limit files (Not a) → DueForLast (Some name) class_text calls_text files a.status a.text
-last_unread name class_text calls_text files a (inl r) =
-    let D = λ (s : Status) (t : Text). DueForLast (Some name) class_text calls_text files s t in
-    subst (λ (x : Status). D x a.text) (sym r.0) (subst (λ (y : Text). D status.Read y) (sym r.1) (UnreadableLast name refl r.2 r.3))
-last_unread name class_text calls_text files a (inr r) =
-    let D = λ (s : Status) (t : Text). DueForLast (Some name) class_text calls_text files s t in
-    subst (λ (x : Status). D x a.text) (sym r.0) (subst (λ (y : Text). D status.TooLong y) (sym r.1) (LongLast name refl r.2 r.3))
+-- ---- the texts of a run
 
--- it was read
-pub last_read : (name class_text calls_text schedule_text : Text) (files : Told) (s : Status) (t : Text) → ReadGives name calls_limit files (Whole schedule_text) → DueForTexts class_text calls_text (Some schedule_text) s t
-    → DueForLast (Some name) class_text calls_text files s t
-last_read name class_text calls_text schedule_text files s t given d = ReadLast (Some schedule_text) s t given.0 given.1 d
+-- the files of a run that were read have the texts of one
+pub run_read : (content : Text → Option Text) (class calls : Text) (schedule : Option Text) (reads : List ReadCall) (texts : List Text) → AreRead content (run_files class calls schedule) reads texts → AreRunTexts texts
+run_read content class calls None reads texts (First n l text m r c f ts are ends was (First n2 l2 text2 m2 r2 c2 f2 ts2 are2 ends2 was2 Nothing)) =
+    record { class = text; calls = text2; schedule = None; are = refl; class_small = was.within; calls_small = was2.within; schedule_small = tt }
+run_read content class calls (Some schedule) reads texts (First n l text m r c f ts are ends was (First n2 l2 text2 m2 r2 c2 f2 ts2 are2 ends2 was2 (First n3 l3 text3 m3 r3 c3 f3 ts3 are3 ends3 was3 Nothing))) =
+    record { class = text; calls = text2; schedule = Some text3; are = refl; class_small = was.within; calls_small = was2.within; schedule_small = was3.within }
+
+pub run_whole : (files : Told) (class calls : Text) (schedule : Option Text) (texts : List Text) → Reads files (run_files class calls schedule) (AllRead texts) → AreRunTexts texts
+run_whole files class calls schedule texts reads = whole (AllRead texts) refl reads.are
+  where
+    whole : (ending : Ending) → ending ≡ AllRead texts → ReadsOf files.content (run_files class calls schedule) reads.calls ending → AreRunTexts texts
+    whole (AllRead texts') same (Whole ts read) = subst (λ (w : List Text). AreRunTexts w) (let e : texts' ≡ texts = cc in e) (run_read files.content class calls schedule reads.calls texts' read)
+    whole (Unreadable name) same of = absurd cc
+    whole (TooLong name) same of = absurd cc
+    whole CutShort same of = absurd cc
+
+-- Where the texts of a run were read, what they are due is due.
+pub due_read : (files : Told) (class calls : Text) (schedule : Option Text) (texts : List Text) (result : Result Answer AllocError) → Reads files (run_files class calls schedule) (AllRead texts)
+    → ((c k : Text) (o : Option Text) → texts ≡ run_texts c k o → IfOk result (λ a. DueForTexts c k o a.status a.text)) → IfOk result (λ a. Due (run_words class calls schedule) files a.status a.text)
+due_read files class calls schedule texts result reads given =
+    let t = run_whole files class calls schedule texts reads in
+    IfOk-weaker result _ _ (λ a d. RunAnswers class calls schedule t.class t.calls t.schedule a.text a.status refl (subst (λ (w : List Text). Reads files (run_files class calls schedule) (AllRead w)) t.are reads) d)
+    (given t.class t.calls t.schedule t.are)
 
 -- ---- what was read of files that tell their contents
 
-pub was_content : (content : Option Text) (limit : ℕ) (text file : Text) → WasRead content limit text → content ≡ Some file → text ≡ file
-was_content content limit text file read is = subst (λ (o : Option Text). IfSome o (λ f. text ≡ f)) is read.whole
+-- texts that were read are those that are told
+pub told_texts : (content : Text → Option Text) (files : List (Text × ℕ)) (reads : List ReadCall) (texts others : List Text) → AreTold content files texts → AreRead content files reads others → others ≡ texts
+told_texts content files reads [] others all Nothing = refl
+told_texts content files reads (text ∷ texts) others all Nothing = absurd all
+told_texts content files reads [] others all (First name limit read mine rest calls files' texts' are ends was more) = absurd all
+told_texts content files reads (text ∷ texts) others all (First name limit read mine rest calls files' texts' are ends was more) =
+    let first : read ≡ text = subst (λ (o : Option Text). IfSome o (λ f. read ≡ f)) all.0 was.whole in
+    let others_are : texts' ≡ texts = told_texts content files' rest texts texts' all.2 more in
+    ap (λ x. x ∷ texts') first ∙ ap (λ xs. text ∷ xs) others_are
 
-pub told_later : (content later : Text → Option Text) (name text : Option Text) → ((n : Text) → later n ≡ content n) → IsToldOf content name text → IsToldOf later name text
-told_later content later None None same told = tt
-told_later content later None (Some text) same told = absurd told
-told_later content later (Some name) None same told = absurd told
-told_later content later (Some name) (Some text) same told = (same name ∙ told.0, told.1)
+-- no file that is told within its limit is too long
+pub told_short : (content : Text → Option Text) (before after : List (Text × ℕ)) (name : Text) (limit : ℕ) (texts : List Text) → AreTold content (before ++ (name, limit) ∷ after) texts → IsLong (content name) limit → ⊥
+told_short content [] after name limit [] all long = all
+told_short content [] after name limit (text ∷ texts) all long =
+    let above : limit < length text = subst (λ (o : Option Text). IsLong o limit) all.0 long in
+    let within : length text ≤ limit = all.1 in
+    absurd (omega (arith, above, within))
+told_short content (file ∷ before) after name limit [] all long = all
+told_short content (file ∷ before) after name limit (text ∷ texts) all long = told_short content before after name limit texts all.2 long
+
+no_rise : (before after : ℕ) → NoFault before after → Rises before after → ⊥
+no_rise before after no_fault rises =
+    let stays : after ≡ before = no_fault.stays in
+    let below : before < 2 ^ 64 - 1 = no_fault.below_end in
+    let rose : min (before + 1) (2 ^ 64 - 1) ≤ after = rises in
+    absurd (omega (arith, stays, below, rose))
+
+-- where they are told, and no fault rose, there is no answer that says why they were not read
+pub told_unread : (files : Told) (asked : List (Text × ℕ)) (texts : List Text) (ending : Ending) (a : Answer) → AreTold files.content asked texts → NoFault files.faults_before files.faults_after → Reads files asked ending → SaysWhy a ending → ⊥
+told_unread files asked texts ending a all no_fault reads (NoRead name s t) = no_rise files.faults_before files.faults_after no_fault reads.faults
+told_unread files asked texts ending a all no_fault reads (NoRoom name s t) = long (TooLong name) refl reads.are
+  where
+    long : (e : Ending) → e ≡ TooLong name → ReadsOf files.content asked reads.calls e → ⊥
+    long (AllRead ts) same of = absurd cc
+    long (Unreadable n) same of = absurd cc
+    long CutShort same of = absurd cc
+    long (TooLong n) same (Exceeds n' limit mine comes goes_on is_long) =
+        told_short files.content comes.before comes.after n limit texts (subst (λ (w : List (Text × ℕ)). AreTold files.content w texts) comes.are all) is_long
+
+-- the texts of a run are told
+pub told_run : (files : Told) (asked : List (Text × ℕ)) (texts others : List Text) → AreTold files.content asked texts → Reads files asked (AllRead others) → others ≡ texts
+told_run files asked texts others all reads = whole (AllRead others) refl reads.are
+  where
+    whole : (ending : Ending) → ending ≡ AllRead others → ReadsOf files.content asked reads.calls ending → others ≡ texts
+    whole (AllRead others') same (Whole ts read) = (let e : others ≡ others' = cc in e) ∙ told_texts files.content asked reads.calls texts others' all read
+    whole (Unreadable name) same of = absurd cc
+    whole (TooLong name) same of = absurd cc
+    whole CutShort same of = absurd cc
+
+-- words of a run name its files
+pub same_run : (class calls class' calls' : Text) (schedule schedule' : Option Text) → run_words class calls schedule ≡ run_words class' calls' schedule' → (class ≡ class') × (calls ≡ calls') × (schedule ≡ schedule')
+same_run class calls class' calls' None None is = (cc, cc, refl)
+same_run class calls class' calls' None (Some schedule') is = absurd cc
+same_run class calls class' calls' (Some schedule) None is = absurd cc
+same_run class calls class' calls' (Some schedule) (Some schedule') is = (cc, cc, cc)
 
 -- ---- which statuses are due
 
@@ -90,7 +135,7 @@ IsOfTexts s = (s ≡ status.Class) ⊎ ((s ≡ status.Text) ⊎ (s ≡ status.Do
 schedule_answer : (class : StraightClass) (calls : List Call) (o : Option Text) (s : Status) (t : Text) → DueForSchedule class calls o s t → IsOfTexts s
 schedule_answer class calls o s t (RefusesSchedule text line rule broken) = inr (inl refl)
 schedule_answer class calls o s t (ReportedSchedule text schedule report is reports) = inr (inr refl)
-schedule_answer class calls o s t (ReportedPlain report reports) = inr (inr refl)
+schedule_answer class calls o s t (ReportedDefault report reports) = inr (inr refl)
 
 calls_answer : (class : StraightClass) (calls_text : Text) (o : Option Text) (s : Status) (t : Text) → DueForCalls class calls_text o s t → IsOfTexts s
 calls_answer class calls_text o s t (RefusesCalls line rule broken) = inr (inl refl)
@@ -98,7 +143,7 @@ calls_answer class calls_text o s t (TakesCalls calls answer text are d) = sched
 
 texts_answer : (class_text calls_text : Text) (o : Option Text) (s : Status) (t : Text) → DueForTexts class_text calls_text o s t → IsOfTexts s
 texts_answer class_text calls_text o s t (RefusesClass phase at refused) = inl refl
-texts_answer class_text calls_text o s t (TakesClass class answer text is proper only d) = calls_answer class calls_text o s t d
+texts_answer class_text calls_text o s t (TakesClass class answer text is proper only accepted d) = calls_answer class calls_text o s t d
 
 no_read : (s : Status) → IsOfTexts s → s ≡ status.Read → ⊥
 no_read s (inl e) is = absurd cc
@@ -111,30 +156,36 @@ no_write s (inr (inl e)) is = absurd cc
 no_write s (inr (inr e)) is = absurd cc
 
 -- a file that could not be read is told only where the files' faults rose
-pub read_rises : (words : List Text) (files : Told) (s : Status) (t : Text) → Due words files s t → s ≡ status.Read → Rises files.before files.after
-read_rises words files s t (NoCommand h stays) is = absurd cc
-read_rises words files s t (UnreadableClass class calls schedule e rises last) is = rises
-read_rises words files s t (UnreadableCalls class calls schedule class_text e read rises last) is = rises
-read_rises words files s t (UnreadableSchedule class calls schedule class_text calls_text e read read2 rises last) is = rises
-read_rises words files s t (LongClass class calls schedule e stays long) is = absurd cc
-read_rises words files s t (LongCalls class calls schedule class_text e stays read long) is = absurd cc
-read_rises words files s t (LongSchedule class calls schedule class_text calls_text e stays read read2 long) is = absurd cc
-read_rises words files s t (AllRead class calls schedule class_text calls_text schedule_text text answer e stays read read2 read3 d) is = absurd (no_read s (texts_answer class_text calls_text schedule_text s t d) is)
+pub read_rises : (words : List Text) (files : Told) (s : Status) (t : Text) → Due words files s t → s ≡ status.Read → Rises files.faults_before files.faults_after
+read_rises words files s t (NoCommand none reads) is = absurd cc
+read_rises words files s t (UnreadableFile asked name ask reads) is = reads.faults
+read_rises words files s t (LongFile asked name ask reads) is = absurd cc
+read_rises words files s t (RunAnswers class calls schedule class_text calls_text schedule_text text answer e reads d) is = absurd (no_read s (texts_answer class_text calls_text schedule_text s t d) is)
+
+-- where it is not told, no fault of the files rose
+pub read_or_stays : (words : List Text) (files : Told) (s : Status) (t : Text) → Due words files s t → (s ≡ status.Read) ⊎ (files.faults_after ≡ files.faults_before)
+read_or_stays words files s t (NoCommand none reads) = inr reads.faults
+read_or_stays words files s t (UnreadableFile asked name ask reads) = inl refl
+read_or_stays words files s t (LongFile asked name ask reads) = inr reads.faults
+read_or_stays words files s t (RunAnswers class calls schedule class_text calls_text schedule_text text answer e reads d) = inr reads.faults
+
+pub unread : (words : List Text) (files : Told) (s : Status) (t : Text) → Due words files s t → files.faults_before < files.faults_after → s ≡ status.Read
+unread words files s t d rose = either (read_or_stays words files s t d)
+  where
+    either : (s ≡ status.Read) ⊎ (files.faults_after ≡ files.faults_before) → s ≡ status.Read
+    either (inl is) = is
+    either (inr stays) = absurd (omega (arith, stays, rose))
 
 -- a fault of the output is never due
 pub not_write : (words : List Text) (files : Told) (s : Status) (t : Text) → Due words files s t → s ≢ status.Write
-not_write words files s t (NoCommand h stays) is = absurd cc
-not_write words files s t (UnreadableClass class calls schedule e rises last) is = absurd cc
-not_write words files s t (UnreadableCalls class calls schedule class_text e read rises last) is = absurd cc
-not_write words files s t (UnreadableSchedule class calls schedule class_text calls_text e read read2 rises last) is = absurd cc
-not_write words files s t (LongClass class calls schedule e stays long) is = absurd cc
-not_write words files s t (LongCalls class calls schedule class_text e stays read long) is = absurd cc
-not_write words files s t (LongSchedule class calls schedule class_text calls_text e stays read read2 long) is = absurd cc
-not_write words files s t (AllRead class calls schedule class_text calls_text schedule_text text answer e stays read read2 read3 d) is = no_write s (texts_answer class_text calls_text schedule_text s t d) is
+not_write words files s t (NoCommand none reads) is = absurd cc
+not_write words files s t (UnreadableFile asked name ask reads) is = absurd cc
+not_write words files s t (LongFile asked name ask reads) is = absurd cc
+not_write words files s t (RunAnswers class calls schedule class_text calls_text schedule_text text answer e reads d) is = no_write s (texts_answer class_text calls_text schedule_text s t d) is
 
--- a front of a due text was written
-pub front_of_due : (words : List Text) (files : Told) (s : Status) (t : Text) (before after : Option Text) → Due words files s t → AppendsFront before after t → WritesFront words files before after
-front_of_due words files s t before after d (n, le, a) = inr (s, t, take n t, drop n t, d, sym (take-append-drop n t), a)
+-- a prefix of a due text was written
+pub prefix_of_due : (words : List Text) (files : Told) (s : Status) (t : Text) (before after : Option Text) → Due words files s t → AppendsPrefix before after t → WritesPrefix words files before after
+prefix_of_due words files s t before after d (n, le, a) = inr (s, t, take n t, drop n t, d, sym (take-append-drop n t), a)
 
-pub given_read : (s : Status) → s ≡ status.Read → IsGiven s
+pub given_read : (s : Status) → s ≡ status.Read → IsAnswer s
 given_read s is = (λ e. absurd cc, λ e. absurd cc)

@@ -1,6 +1,5 @@
 -- What the tokens and the errors of a text say of the text.
-use Rattle.std.proofs.Common.{◌≡◌, List, map, Result, Ok, Err, ◌⊎◌, inl, inr, codes, ap, sym, subst, ◌∙◌}
-use Rattle.java_tree.specs.declared.token.Kind.{Kind}
+use Rattle.std.proofs.Common.{◌≡◌, ℕ, List, [], Option, Some, None, Result, Ok, Err, Contains, ◌⊎◌, inl, inr, codes, sym, subst, ◌∙◌, arith}
 use Rattle.java_tree.specs.declared.token.Place.{Place}
 use Rattle.java_tree.specs.declared.token.Token.{Token}
 use Rattle.java_tree.specs.declared.tree.Class.{Class}
@@ -10,27 +9,33 @@ use Rattle.java_lexer.specs.Places.{first_place}
 use Rattle.java_lexer.specs.Spelling.{Spells, Refuses as RefusesText}
 use Rattle.java_parser.specs.declared.error.ParseError.{ParseError}
 use Rattle.java_parser.specs.declared.error.ParseError.TheVariants as parse_error
+use Rattle.java_types.specs.declared.error.TypeError.TheVariants.{Rule}
+use Rattle.java_types.specs.declared.checking.Refused.{Refused}
+use Rattle.java_types.specs.Check.{findings_of, first_of, IsRefusal}
+use Rattle.java_flow.specs.declared.finding.Finding.{Finding as FlowFinding}
+use Rattle.java_flow.specs.Findings.{findings}
 use Rattle.early_forms.specs.declared.straight.StraightClass.{StraightClass}
 use Rattle.early_forms.specs.Trees.{class_tree}
 use Rattle.early_forms.specs.Names.{IsProper}
 use Rattle.sdg_top.specs.declared.accept.Phase.TheVariants as phase
 use Rattle.sdg_top.specs.declared.accept.Judgement.{Judgement}
 use Rattle.sdg_top.specs.declared.accept.Judgement.TheVariants.{Takes, Refuses}
-use Rattle.sdg_top.specs.Accepted.{Text, IsClassText, IsRefused, AtByte, AtNumber, AtComment, NoSyntax, NoForm}
-use Rattle.sdg_top.specs.Acceptance.{Judges, IsTaken, RefusesAt, HasTokens, JudgesTree, JudgesTokens}
-
-abbrev pub kinds : List Token → List Kind
-kinds tokens = map (λ t. t.kind) tokens
+use Rattle.sdg_top.specs.Accepted.{Text, IsClassText, IsOnlyClass, IsAccepted, IsRefused, AtByte, AtNumber, AtComment, NoSyntax, AtType, AtUnreachable, AtMissingReturn, AtUnassigned, NoForm}
+use Rattle.sdg_top.specs.Acceptance.{Judges, IsTaken, RefusesAt, HasTokens, JudgesTree, JudgesOnly, JudgesTokens}
 
 -- ---- a tree and its tokens
 
-pub tree_judged : (ks : List Kind) (tree : Class) (j : Judgement) → HasTokens ks tree → ((other : Class) → HasTokens ks other → other ≡ tree) → JudgesTree tree j → JudgesTokens ks j
-tree_judged ks tree (Takes c) has only (is, proper) = (subst (HasTokens ks) is has, proper, λ other h. only other h ∙ is)
-tree_judged ks tree (Refuses phase.Form at) has only (is, none) = (is, tree, has, only, none)
-tree_judged ks tree (Refuses phase.Byte at) has only h = absurd h
-tree_judged ks tree (Refuses phase.Number at) has only h = absurd h
-tree_judged ks tree (Refuses phase.Comment at) has only h = absurd h
-tree_judged ks tree (Refuses phase.Syntax at) has only h = absurd h
+pub tree_judged : (tokens : List Token) (tree : Class) (j : Judgement) → HasTokens tokens tree → ((other : Class) → HasTokens tokens other → other ≡ tree) → JudgesTree tree j → JudgesTokens tokens j
+tree_judged tokens tree (Takes c) has only h = record { tree = tree; has = has; only = only; judges = h }
+tree_judged tokens tree (Refuses (phase.Type rule) at) has only h = record { tree = tree; has = has; only = only; judges = h }
+tree_judged tokens tree (Refuses phase.Unreachable at) has only h = record { tree = tree; has = has; only = only; judges = h }
+tree_judged tokens tree (Refuses phase.MissingReturn at) has only h = record { tree = tree; has = has; only = only; judges = h }
+tree_judged tokens tree (Refuses phase.Unassigned at) has only h = record { tree = tree; has = has; only = only; judges = h }
+tree_judged tokens tree (Refuses phase.Form at) has only h = record { tree = tree; has = has; only = only; judges = h }
+tree_judged tokens tree (Refuses phase.Byte at) has only h = absurd h
+tree_judged tokens tree (Refuses phase.Number at) has only h = absurd h
+tree_judged tokens tree (Refuses phase.Comment at) has only h = absurd h
+tree_judged tokens tree (Refuses phase.Syntax at) has only h = absurd h
 
 -- ---- tokens and their text
 
@@ -38,35 +43,69 @@ tree_judged ks tree (Refuses phase.Syntax at) has only h = absurd h
 abbrev pub AreOnlyTokens : Text → List Token → Type 0
 AreOnlyTokens text tokens = (others : List Token) (end : Place) → Spells first_place others end text → others ≡ tokens
 
-class_text : (text : Text) (tokens : List Token) (end : Place) (class : Class) → Spells first_place tokens end text → HasTokens (kinds tokens) class → IsClassText text class
+class_text : (text : Text) (tokens : List Token) (end : Place) (class : Class) → Spells first_place tokens end text → HasTokens tokens class → IsClassText text class
 class_text text tokens end class spelled h = record { tokens = tokens; end = end; spelled = spelled; are_tokens = h.are_tokens; placed = h.placed; levels = h.levels }
 
-has_tokens : (text : Text) (tokens : List Token) (class : Class) → AreOnlyTokens text tokens → IsClassText text class → HasTokens (kinds tokens) class
-has_tokens text tokens class only h = record { are_tokens = h.are_tokens ∙ ap kinds (only h.tokens h.end h.spelled); placed = h.placed; levels = h.levels }
+has_tokens : (text : Text) (tokens : List Token) (class : Class) → AreOnlyTokens text tokens → IsClassText text class → HasTokens tokens class
+has_tokens text tokens class only h = record { are_tokens = h.are_tokens ∙ only h.tokens h.end h.spelled; placed = h.placed; levels = h.levels }
 
 at_first : (text : Text) (name : Text) (at : Place) → at ≡ first_place → IsRefused text name first_place → IsRefused text name at
 at_first text name at e r = let P : Place → Type 0 = IsRefused text name in subst P (sym e) r
 
-pub tokens_judged : (text : Text) (tokens : List Token) (end : Place) (j : Judgement) → Spells first_place tokens end text → AreOnlyTokens text tokens → JudgesTokens (kinds tokens) j → Judges text j
-tokens_judged text tokens end (Takes c) spelled only (has, proper, one) =
-    (class_text text tokens end (class_tree c) spelled has, proper, λ other h. one other (has_tokens text tokens other only h))
+-- the tree of the tokens is the class of the text
+only_text : (text : Text) (tokens : List Token) (end : Place) (j : Judgement) → Spells first_place tokens end text → AreOnlyTokens text tokens → (h : JudgesOnly tokens j) → IsClassText text h.tree × IsOnlyClass text h.tree
+only_text text tokens end j spelled only h = (class_text text tokens end h.tree spelled h.has, λ other t. h.only other (has_tokens text tokens other only t))
+
+pub tokens_judged : (text : Text) (tokens : List Token) (end : Place) (j : Judgement) → Spells first_place tokens end text → AreOnlyTokens text tokens → JudgesTokens tokens j → Judges text j
+tokens_judged text tokens end (Takes c) spelled only h =
+    let is = only_text text tokens end (Takes c) spelled only h in
+    let P : Class → Type 0 = λ t. IsClassText text t × IsOnlyClass text t × IsAccepted t in
+    let all : P (class_tree c) = subst P h.judges.0 (is.0, is.1, h.judges.2) in
+    (all.0, h.judges.1, all.1, all.2)
+tokens_judged text tokens end (Refuses (phase.Type rule) at) spelled only h =
+    let is = only_text text tokens end (Refuses (phase.Type rule) at) spelled only h in AtType h.tree rule at is.0 is.1 h.judges
+tokens_judged text tokens end (Refuses phase.Unreachable at) spelled only h =
+    let is = only_text text tokens end (Refuses phase.Unreachable at) spelled only h in AtUnreachable h.tree at is.0 is.1 h.judges.0 h.judges.1
+tokens_judged text tokens end (Refuses phase.MissingReturn at) spelled only h =
+    let is = only_text text tokens end (Refuses phase.MissingReturn at) spelled only h in AtMissingReturn h.tree at is.0 is.1 h.judges.0 h.judges.1
+tokens_judged text tokens end (Refuses phase.Unassigned at) spelled only h =
+    let is = only_text text tokens end (Refuses phase.Unassigned at) spelled only h in AtUnassigned h.tree at is.0 is.1 h.judges.0 h.judges.1
+tokens_judged text tokens end (Refuses phase.Form at) spelled only h =
+    let is = only_text text tokens end (Refuses phase.Form at) spelled only h in
+    at_first text (codes "form") at h.judges.0 (NoForm h.tree is.0 is.1 h.judges.1 h.judges.2)
 tokens_judged text tokens end (Refuses phase.Syntax at) spelled only (is, none) =
     at_first text (codes "syntax") at is (NoSyntax tokens end spelled (λ class h. none class (has_tokens text tokens class only h)))
-tokens_judged text tokens end (Refuses phase.Form at) spelled only (is, class, has, one, none) =
-    at_first text (codes "form") at is (NoForm class (class_text text tokens end class spelled has) (λ other h. one other (has_tokens text tokens other only h)) none)
-tokens_judged text tokens end (Refuses phase.Byte at) spelled only h = absurd h
-tokens_judged text tokens end (Refuses phase.Number at) spelled only h = absurd h
-tokens_judged text tokens end (Refuses phase.Comment at) spelled only h = absurd h
+tokens_judged text tokens end (Refuses phase.Byte at) spelled only h = absurd h.judges
+tokens_judged text tokens end (Refuses phase.Number at) spelled only h = absurd h.judges
+tokens_judged text tokens end (Refuses phase.Comment at) spelled only h = absurd h.judges
 
--- the text of a class of the form is taken
-pub tokens_taken : (text : Text) (tokens : List Token) (class : StraightClass) (j : Judgement) → AreOnlyTokens text tokens → IsClassText text (class_tree class) → IsProper class → JudgesTokens (kinds tokens) j → IsTaken class j
-tokens_taken text tokens class (Takes c) only is proper (has, own, one) = sym (one (class_tree class) (has_tokens text tokens (class_tree class) only is))
-tokens_taken text tokens class (Refuses phase.Syntax at) only is proper (e, none) = none (class_tree class) (has_tokens text tokens (class_tree class) only is)
-tokens_taken text tokens class (Refuses phase.Form at) only is proper (e, other, has, one, none) =
-    none (class, sym (one (class_tree class) (has_tokens text tokens (class_tree class) only is)), proper)
-tokens_taken text tokens class (Refuses phase.Byte at) only is proper h = absurd h
-tokens_taken text tokens class (Refuses phase.Number at) only is proper h = absurd h
-tokens_taken text tokens class (Refuses phase.Comment at) only is proper h = absurd h
+-- an accepted class has nothing to be refused for
+no_finding : (tree : Class) (rule : ℕ) (at : Place) → findings_of tree ≡ [] → IsRefusal tree (Rule rule at) → ⊥
+no_finding tree rule at none refused =
+    let P : List Refused → Type 0 = λ all. first_of all ≡ Some (record { place = at; rule = rule }) in
+    let e : P [] = subst P none refused in
+    absurd cc
+
+no_flow : (tree : Class) (f : FlowFinding) → findings tree ≡ [] → Contains (findings tree) f → ⊥
+no_flow tree f none has = let P : List FlowFinding → Type 0 = λ all. Contains all f in let e : P [] = subst P none has in omega (arith, e.1)
+
+-- the text of an accepted class of the form is taken
+pub tokens_taken : (text : Text) (tokens : List Token) (class : StraightClass) (j : Judgement) → AreOnlyTokens text tokens → IsClassText text (class_tree class) → IsProper class → IsAccepted (class_tree class) → JudgesTokens tokens j → IsTaken class j
+tokens_taken text tokens class (Takes c) only is proper accepted h = sym h.judges.0 ∙ sym (h.only (class_tree class) (has_tokens text tokens (class_tree class) only is))
+tokens_taken text tokens class (Refuses (phase.Type rule) at) only is proper accepted h =
+    let same = subst IsAccepted (h.only (class_tree class) (has_tokens text tokens (class_tree class) only is)) accepted in no_finding h.tree rule at same.typed h.judges
+tokens_taken text tokens class (Refuses phase.Unreachable at) only is proper accepted h =
+    let same = subst IsAccepted (h.only (class_tree class) (has_tokens text tokens (class_tree class) only is)) accepted in no_flow h.tree _ same.flows h.judges.1.is_one
+tokens_taken text tokens class (Refuses phase.MissingReturn at) only is proper accepted h =
+    let same = subst IsAccepted (h.only (class_tree class) (has_tokens text tokens (class_tree class) only is)) accepted in no_flow h.tree _ same.flows h.judges.1.is_one
+tokens_taken text tokens class (Refuses phase.Unassigned at) only is proper accepted h =
+    let same = subst IsAccepted (h.only (class_tree class) (has_tokens text tokens (class_tree class) only is)) accepted in no_flow h.tree _ same.flows h.judges.1.is_one
+tokens_taken text tokens class (Refuses phase.Form at) only is proper accepted h =
+    h.judges.2 (class, sym (h.only (class_tree class) (has_tokens text tokens (class_tree class) only is)), proper)
+tokens_taken text tokens class (Refuses phase.Syntax at) only is proper accepted (e, none) = none (class_tree class) (has_tokens text tokens (class_tree class) only is)
+tokens_taken text tokens class (Refuses phase.Byte at) only is proper accepted h = absurd h.judges
+tokens_taken text tokens class (Refuses phase.Number at) only is proper accepted h = absurd h.judges
+tokens_taken text tokens class (Refuses phase.Comment at) only is proper accepted h = absurd h.judges
 
 -- ---- errors
 

@@ -1,6 +1,6 @@
 -- What the judgement of a class text says.
-use Rattle.std.specs.Prelude.{◌≡◌, ◌≤◌, List, codes}
-use Rattle.java_tree.specs.declared.token.Kind.{Kind}
+use Rattle.std.specs.Prelude.{◌≡◌, ◌≤◌, List, [], codes}
+use Rattle.java_tree.specs.declared.token.Token.{Token}
 use Rattle.java_tree.specs.declared.tree.Class.{Class}
 use Rattle.java_tree.specs.Tokens.{tokens_of}
 use Rattle.java_tree.specs.Placed.{IsWellPlaced}
@@ -8,6 +8,10 @@ use Rattle.java_tree.specs.Heights.{height, max_levels}
 use Rattle.java_lexer.specs.Places.{first_place}
 use Rattle.java_lexer.specs.declared.lexer.LexError.{LexError}
 use Rattle.java_lexer.specs.declared.lexer.LexError.TheVariants as error
+use Rattle.java_types.specs.declared.error.TypeError.TheVariants.{Rule}
+use Rattle.java_types.specs.Check.{findings_of, IsRefusal}
+use Rattle.java_flow.specs.declared.error.FlowError.TheVariants.{Unreachable, MissingReturn, Unassigned}
+use Rattle.java_flow.specs.Findings.{findings, Refuses as RefusesFlow}
 use Rattle.early_forms.specs.declared.straight.StraightClass.{StraightClass}
 use Rattle.early_forms.specs.Trees.{class_tree}
 use Rattle.early_forms.specs.Names.{IsProper}
@@ -16,18 +20,22 @@ use Rattle.sdg_top.specs.declared.accept.Phase.{Phase}
 use Rattle.sdg_top.specs.declared.accept.Phase.TheVariants as phase
 use Rattle.sdg_top.specs.declared.accept.Judgement.{Judgement}
 use Rattle.sdg_top.specs.declared.accept.Judgement.TheVariants.{Takes, Refuses}
-use Rattle.sdg_top.specs.Accepted.{Text, IsClassText, IsOnlyClass, IsRefused}
+use Rattle.sdg_top.specs.Accepted.{Text, IsClassText, IsOnlyClass, IsAccepted, IsRefused, type_phase}
 
 abbrev pub phase_text : Phase → Text
 phase_text phase.Byte = codes "byte"
 phase_text phase.Number = codes "number"
 phase_text phase.Comment = codes "comment"
 phase_text phase.Syntax = codes "syntax"
+phase_text (phase.Type rule) = type_phase rule
+phase_text phase.Unreachable = codes "flow 1"
+phase_text phase.MissingReturn = codes "flow 2"
+phase_text phase.Unassigned = codes "flow 3"
 phase_text phase.Form = codes "form"
 
--- the class is the one that a text writes, and of the form; or the text is refused
+-- the class is the one that a text writes, accepted and of the form; or the text is refused
 abbrev pub Judges : Text → Judgement → Type 0
-Judges text (Takes c) = IsClassText text (class_tree c) × IsProper c × IsOnlyClass text (class_tree c)
+Judges text (Takes c) = IsClassText text (class_tree c) × IsProper c × IsOnlyClass text (class_tree c) × IsAccepted (class_tree c)
 Judges text (Refuses phase at) = IsRefused text (phase_text phase) at
 
 -- the text is taken as this class
@@ -45,20 +53,29 @@ RefusesAt error.Memory j = ⊥
 -- ---- the same of tokens
 
 -- the class has these tokens
-pub record HasTokens (kinds : List Kind) (class : Class) : Type 0 where
-  pub are_tokens : tokens_of class ≡ kinds
+pub record HasTokens (tokens : List Token) (class : Class) : Type 0 where
+  pub are_tokens : tokens_of class ≡ tokens
   pub placed : IsWellPlaced class
   pub levels : height class ≤ max_levels
 
--- of a tree
+-- ---- the same of a tree
+
 abbrev pub JudgesTree : Class → Judgement → Type 0
-JudgesTree tree (Takes c) = (tree ≡ class_tree c) × IsProper c
-JudgesTree tree (Refuses phase.Form at) = (at ≡ first_place) × (IsStraightForm tree → ⊥)
+JudgesTree tree (Takes c) = (tree ≡ class_tree c) × IsProper c × IsAccepted tree
+JudgesTree tree (Refuses (phase.Type rule) at) = IsRefusal tree (Rule rule at)
+JudgesTree tree (Refuses phase.Unreachable at) = (findings_of tree ≡ []) × RefusesFlow (findings tree) (Unreachable at)
+JudgesTree tree (Refuses phase.MissingReturn at) = (findings_of tree ≡ []) × RefusesFlow (findings tree) (MissingReturn at)
+JudgesTree tree (Refuses phase.Unassigned at) = (findings_of tree ≡ []) × RefusesFlow (findings tree) (Unassigned at)
+JudgesTree tree (Refuses phase.Form at) = (at ≡ first_place) × IsAccepted tree × (IsStraightForm tree → ⊥)
 JudgesTree tree (Refuses _ at) = ⊥
 
-abbrev pub JudgesTokens : List Kind → Judgement → Type 0
-JudgesTokens kinds (Takes c) = HasTokens kinds (class_tree c) × IsProper c × ((other : Class) → HasTokens kinds other → other ≡ class_tree c)
-JudgesTokens kinds (Refuses phase.Syntax at) = (at ≡ first_place) × ((class : Class) → HasTokens kinds class → ⊥)
-JudgesTokens kinds (Refuses phase.Form at) =
-    (at ≡ first_place) × (class : Class) × HasTokens kinds class × ((other : Class) → HasTokens kinds other → other ≡ class) × (IsStraightForm class → ⊥)
-JudgesTokens kinds (Refuses _ at) = ⊥
+-- there is one tree with these tokens, and it is judged; or there is none
+pub record JudgesOnly (tokens : List Token) (j : Judgement) : Type 0 where
+  pub tree : Class
+  pub has : HasTokens tokens tree
+  pub only : (other : Class) → HasTokens tokens other → other ≡ tree
+  pub judges : JudgesTree tree j
+
+abbrev pub JudgesTokens : List Token → Judgement → Type 0
+JudgesTokens tokens (Refuses phase.Syntax at) = (at ≡ first_place) × ((class : Class) → HasTokens tokens class → ⊥)
+JudgesTokens tokens j = JudgesOnly tokens j

@@ -1,5 +1,5 @@
 -- Which texts are accepted, why a class is refused, and the report that an accepted class's calls are due.
-use Rattle.std.specs.Prelude.{◌≡◌, ℕ, ◌≤◌, List, [], map, codes}
+use Rattle.std.specs.Prelude.{◌≡◌, ℕ, ◌≤◌, List, [], ◌++◌, map, codes, decimal}
 use Rattle.sdg_base.specs.declared.call.Call.{Call}
 use Rattle.java_tree.specs.declared.token.Place.{Place}
 use Rattle.java_tree.specs.declared.token.Token.{Token}
@@ -13,6 +13,10 @@ use Rattle.java_tree.specs.Heights.{height, max_levels}
 use Rattle.java_lexer.specs.declared.lexer.LexError.TheVariants.{BadByte, BadNumber, OpenComment}
 use Rattle.java_lexer.specs.Places.{first_place}
 use Rattle.java_lexer.specs.Spelling.{Spells, Refuses}
+use Rattle.java_types.specs.declared.error.TypeError.TheVariants.{Rule}
+use Rattle.java_types.specs.Check.{findings_of, IsRefusal}
+use Rattle.java_flow.specs.declared.error.FlowError.TheVariants.{Unreachable, MissingReturn, Unassigned}
+use Rattle.java_flow.specs.Findings.{findings, Refuses as RefusesFlow}
 use Rattle.early_forms.specs.declared.straight.StraightClass.{StraightClass}
 use Rattle.early_forms.specs.Trees.{class_tree}
 use Rattle.early_forms.specs.Forms.{IsStraightForm}
@@ -41,13 +45,22 @@ pub record IsClassText (text : Text) (class : Class) : Type 0 where
   pub tokens : List Token
   pub end : Place
   pub spelled : Spells first_place tokens end text
-  pub are_tokens : tokens_of class ≡ map (λ t. t.kind) tokens
+  pub are_tokens : tokens_of class ≡ tokens
   pub placed : IsWellPlaced class
   pub levels : height class ≤ max_levels
 
 -- each class that has this text is this one
 abbrev pub IsOnlyClass : Text → Class → Type 0
 IsOnlyClass text class = (other : Class) → IsClassText text other → other ≡ class
+
+-- no rule on types has a finding, and none on the flow of statements
+pub record IsAccepted (class : Class) : Type 0 where
+  pub typed : findings_of class ≡ []
+  pub flows : findings class ≡ []
+
+-- a rule on types by its number
+abbrev pub type_phase : ℕ → Text
+type_phase rule = codes "type " ++ decimal rule
 
 -- Why a class text is refused: the first phase that finds it wrong, and where. Syntax and form name the first place of a text.
 pub data IsRefused (text : Text) : Text → Place → Type 0 where
@@ -59,8 +72,15 @@ pub data IsRefused (text : Text) : Text → Place → Type 0 where
   AtComment : (at : Place) → Refuses first_place text (OpenComment at) → IsRefused text (codes "comment") at
   -- tokens that are no class
   NoSyntax : (tokens : List Token) (end : Place) → Spells first_place tokens end text → ((class : Class) → IsClassText text class → ⊥) → IsRefused text (codes "syntax") first_place
-  -- a class, and the only one with this text, that is not of the form that runs
-  NoForm : (class : Class) → IsClassText text class → IsOnlyClass text class → (IsStraightForm class → ⊥) → IsRefused text (codes "form") first_place
+  -- a class, and the only one with this text, that breaks this rule on types first
+  AtType : (class : Class) (rule : ℕ) (at : Place) → IsClassText text class → IsOnlyClass text class → IsRefusal class (Rule rule at) → IsRefused text (type_phase rule) at
+  -- one that breaks no rule on types, and in which a statement can't be reached, a value isn't returned, or a local isn't
+  -- assigned, which comes first
+  AtUnreachable : (class : Class) (at : Place) → IsClassText text class → IsOnlyClass text class → findings_of class ≡ [] → RefusesFlow (findings class) (Unreachable at) → IsRefused text (codes "flow 1") at
+  AtMissingReturn : (class : Class) (at : Place) → IsClassText text class → IsOnlyClass text class → findings_of class ≡ [] → RefusesFlow (findings class) (MissingReturn at) → IsRefused text (codes "flow 2") at
+  AtUnassigned : (class : Class) (at : Place) → IsClassText text class → IsOnlyClass text class → findings_of class ≡ [] → RefusesFlow (findings class) (Unassigned at) → IsRefused text (codes "flow 3") at
+  -- one that is accepted, but not of the form that runs
+  NoForm : (class : Class) → IsClassText text class → IsOnlyClass text class → IsAccepted class → (IsStraightForm class → ⊥) → IsRefused text (codes "form") first_place
 
 -- ---- the methods as a caller sees them
 

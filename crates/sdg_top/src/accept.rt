@@ -1,42 +1,54 @@
 //! The class that a text writes, or why it is refused, and its methods as a caller sees them.
 
-ghost use Rattle.std.specs.Prelude.{◌≡◌, ◌≤◌, length, map, IfOk};
+ghost use Rattle.std.specs.Prelude.{◌≡◌, ◌≤◌, [], length, IfOk};
+ghost use Rattle.std.specs.String.{string_bytes};
+ghost use Rattle.java_types.specs.Check.{findings_of};
 ghost use Rattle.early_forms.specs.declared.straight.StraightClass.{StraightClass as ClassOf};
 ghost use Rattle.early_forms.specs.Trees.{class_tree};
 ghost use Rattle.early_forms.specs.Names.{IsProper};
-ghost use Rattle.sdg_top.specs.Accepted.{IsClassText, entrances_of};
+ghost use Rattle.sdg_top.specs.Accepted.{IsClassText, IsAccepted, entrances_of};
 ghost use Rattle.sdg_top.specs.Acceptance.{phase_text, Judges, IsTaken, RefusesAt, JudgesTree, JudgesTokens};
 ghost use Rattle.sdg_top.specs.Entrances.{straight_entrance};
 
 use early_forms::{StraightClass, StraightMethod, straight_form};
+use java_flow::{FlowError, flow};
 use java_lexer::{LexError, lex};
 use java_parser::{ParseError, parse};
-use java_tree::{Class, Place, Tokens};
+use java_tree::{Class, Place, Tokens, Typed};
+use java_types::{TypeError, check};
 use run_text::{Entrance, ValueType};
 use sqlite_items::Items;
 use std::alloc::{AllocError, Global};
 
-/// The phases in which a class is judged, in their order.
-#[derive(Clone, Copy, Debug, PartialEq, Eq)]
+/// The phases in which a class is judged, in their order. A rule on types has its number.
+#[derive(Clone, Copy)]
 pub(crate) enum Phase {
     Byte,
     Number,
     Comment,
     Syntax,
+    Type(u8),
+    Unreachable,
+    MissingReturn,
+    Unassigned,
     Form,
 }
 
 impl Phase {
     /// Its name in a refusal.
-    pub(crate) fn text(self) -> &'static str
-        ensures { result.now ≡ phase_text self }
+    pub(crate) fn text(self, alloc: Global) -> Result<String, AllocError>
+        ensures { IfOk result (λ text. string_bytes text ≡ phase_text self) }
     {
         match self {
-            Phase::Byte => "byte",
-            Phase::Number => "number",
-            Phase::Comment => "comment",
-            Phase::Syntax => "syntax",
-            Phase::Form => "form",
+            Phase::Byte => String::from_str(alloc, "byte"),
+            Phase::Number => String::from_str(alloc, "number"),
+            Phase::Comment => String::from_str(alloc, "comment"),
+            Phase::Syntax => String::from_str(alloc, "syntax"),
+            Phase::Type(rule) => format!(in alloc; "type {rule}"),
+            Phase::Unreachable => String::from_str(alloc, "flow 1"),
+            Phase::MissingReturn => String::from_str(alloc, "flow 2"),
+            Phase::Unassigned => String::from_str(alloc, "flow 3"),
+            Phase::Form => String::from_str(alloc, "form"),
         }
     }
 }
@@ -51,8 +63,9 @@ pub(crate) enum Judgement {
 /// Where the phases stand that name no place of their own.
 const FIRST: Place = Place { line: 1, column: 1 };
 
-/// Judges a tree that has been read, which is the only one with its tokens.
-fn judge_tree(alloc: Global, tree: &Class) -> Result<Judgement, AllocError>
+/// Judges an accepted class.
+fn judge_form(alloc: Global, tree: &Class) -> Result<Judgement, AllocError>
+    requires { IsAccepted tree.now }
     ensures { IfOk result (JudgesTree tree.now) }
 {
     match straight_form(alloc, tree)? {
@@ -61,12 +74,37 @@ fn judge_tree(alloc: Global, tree: &Class) -> Result<Judgement, AllocError>
     }
 }
 
+/// Judges a class that breaks no rule on types.
+fn judge_flow(alloc: Global, typed: &Typed) -> Result<Judgement, AllocError>
+    requires { findings_of typed.now.class ≡ [] }
+    ensures { IfOk result (JudgesTree typed.now.class) }
+{
+    match flow(alloc, typed) {
+        Ok(()) => judge_form(alloc, &typed.class),
+        Err(FlowError::Unreachable(at)) => Ok(Judgement::Refuses(Phase::Unreachable, at)),
+        Err(FlowError::MissingReturn(at)) => Ok(Judgement::Refuses(Phase::MissingReturn, at)),
+        Err(FlowError::Unassigned(at)) => Ok(Judgement::Refuses(Phase::Unassigned, at)),
+        Err(FlowError::Memory) => Err(AllocError),
+    }
+}
+
+/// Judges a tree that has been read, which is the only one with its tokens.
+fn judge_tree(alloc: Global, tree: Class) -> Result<Judgement, AllocError>
+    ensures { IfOk result (JudgesTree tree) }
+{
+    match check(alloc, tree) {
+        Ok(typed) => judge_flow(alloc, &typed),
+        Err(TypeError::Rule { rule, place }) => Ok(Judgement::Refuses(Phase::Type(rule), place)),
+        Err(TypeError::Memory) => Err(AllocError),
+    }
+}
+
 /// Judges the tokens of a text.
 fn judge_tokens(alloc: Global, tokens: &Tokens) -> Result<Judgement, AllocError>
-    ensures { IfOk result (JudgesTokens (map (λ t. t.kind) tokens.now.list)) }
+    ensures { IfOk result (JudgesTokens tokens.now.list) }
 {
     match parse(alloc, tokens) {
-        Ok(tree) => judge_tree(alloc, &tree),
+        Ok(tree) => judge_tree(alloc, tree),
         Err(ParseError::NoClass { .. }) => Ok(Judgement::Refuses(Phase::Syntax, FIRST)),
         Err(ParseError::Memory) => Err(AllocError),
     }
@@ -88,7 +126,7 @@ fn refusal(error: LexError) -> Result<Judgement, AllocError>
 pub(crate) fn judge(alloc: Global, text: &[u8]) -> Result<Judgement, AllocError>
     requires { length text.now ≤ 1048576 }
     ensures judges { IfOk result (Judges text.now) }
-    ensures takes { (class : ClassOf) → IsClassText text.now (class_tree class) → IsProper class → IfOk result (IsTaken class) }
+    ensures takes { (class : ClassOf) → IsClassText text.now (class_tree class) → IsProper class → IsAccepted (class_tree class) → IfOk result (IsTaken class) }
 {
     match lex(alloc, text) {
         Ok(tokens) => judge_tokens(alloc, &tokens),

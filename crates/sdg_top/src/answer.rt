@@ -75,7 +75,7 @@ fn answer_schedule(
         Some(text) => answer_text(alloc, class, calls, text),
         None => Ok(Answer {
             status: Status::Done,
-            text: run(alloc, class, calls, &Schedule::plain(alloc))?,
+            text: run(alloc, class, calls, &Schedule::by_default(alloc))?,
         }),
     }
 }
@@ -119,9 +119,12 @@ pub(crate) fn answer_texts(
 {
     match judge(alloc, class_text)? {
         Judgement::Takes(class) => answer_calls(alloc, &class, calls_text, schedule_text),
-        Judgement::Refuses(phase, at) => Ok(Answer {
-            status: Status::Class,
-            text: class_refused(alloc, phase.text(), at.line, at.column)?,
-        }),
+        Judgement::Refuses(phase, at) => {
+            let name = phase.text(alloc)?;
+            Ok(Answer {
+                status: Status::Class,
+                text: class_refused(alloc, name.as_str(), at.line, at.column)?,
+            })
+        }
     }
 }

@@ -9,10 +9,6 @@ mod report;
 mod results;
 mod run;
 mod status;
-#[cfg(test)]
-mod tests;
-#[cfg(test)]
-mod top_tests;
 
 pub use report::print_report;
 pub use run::java2sdg;

@@ -1,4 +1,5 @@
 pub mod Entries
 pub mod Contents
 pub mod Methods
+pub mod Shown
 pub mod States

@@ -3,10 +3,12 @@
 
 mod access;
 mod method;
+mod signature;
 mod table;
 
 pub use access::Access;
 pub use method::Method;
+pub use signature::{Signature, state_method, vector_method};
 pub use table::Table;
 
 #[cfg(test)]

@@ -1,5 +1,6 @@
 -- The meaning of a task: what an item gives at a port, by the instructions of the flat code one after the other.
 use Rattle.std.specs.Prelude.{ℕ, ℤ, zero, suc, Bool, ◌==◌, nat_lt, if◌then◌else◌, List, [], ◌∷◌, ◌++◌, ◌-◌, length, drop, replicate, Option, Some, None, slice_get, slice_set}
+use Rattle.sdg_base.specs.Limits.{turns_at_start}
 use Rattle.sdg_base.specs.declared.val.Val.{Val}
 use Rattle.sdg_base.specs.declared.val.Val.TheVariants as val
 use Rattle.sdg_base.specs.declared.val.Num.{Num}
@@ -158,10 +159,6 @@ run s [] stack vars turns state = None
 run s (i ∷ is) stack vars turns state = perform s i (run s is) stack vars turns state
 
 -- ---- tasks
-
--- each call starts with so many turns
-abbrev pub turns_at_start : ℕ
-turns_at_start = 100000
 
 -- a method's variables as a call begins: the arguments, and nothing yet in each other
 abbrev pub first_vars : GraphMethod → List Val → List Val

@@ -14,6 +14,3 @@ pub use graph::{
 };
 pub use out::Out;
 pub use run::run_task;
-
-#[cfg(test)]
-mod tests;

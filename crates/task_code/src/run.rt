@@ -10,12 +10,9 @@ use crate::instructions::{Step, access, binary, cast, cut, ended, load, push_key
 use crate::out::Out;
 use crate::stack::Stack;
 use crate::variables::{carried_vars, first_vars};
-use sdg_base::{Item, Outcome, Port, Val, Vals};
+use sdg_base::{Item, Outcome, Port, TURNS_AT_START, Val, Vals};
 use state_classes::Access;
 use std::alloc::{AllocError, Global};
-
-/// Each call starts with so many turns.
-const TURNS_AT_START: u32 = 100_000;
 
 /// What instructions work on.
 #[derive(Drop)]

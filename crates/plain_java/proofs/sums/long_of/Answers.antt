@@ -1,9 +1,10 @@
-use Rattle.std.proofs.Common.{◌<◌, ◌+◌, length, get_or, drop, sym, ◌∙◌, ap, subst}
+use Rattle.std.proofs.Common.{◌<◌, ◌+◌, length, get_or, drop, Some, sym, ◌∙◌, ap, subst}
 use Rattle.std.proofs.lemmas.List.Elements.{All-head}
 use Rattle.sdg_base.specs.Operators.{IsNumber}
 use Rattle.early_forms.specs.Names.{AtomIsKnown}
 use Rattle.plain_java.specs.Scopes.{names_in}
-use Rattle.plain_java.proofs.SumTrees.{added, atom_is, added-first, added-later}
+use Rattle.plain_java.proofs.Expressions.{added}
+use Rattle.plain_java.proofs.SumTrees.{atom_is, added-first, added-later}
 use Rattle.plain_java.proofs.Totals.{sum_of_numbers, known_at_place}
 use Rattle.plain_java.proofs.sums.long_of.Goals as goal
 
@@ -30,7 +31,7 @@ loop-atom-preserved c =
     record {
       number = subst IsNumber (sym c.add-total.ensures) (sum_of_numbers c.loop-atom.total v c.loop-atom.invariant.number c.value_of.ensures.number);
       whole =
-          ap (λ t. added scope t (drop (i + 1) others)) c.add-total.ensures
+          ap (λ t. added scope (Some t) (drop (i + 1) others)) c.add-total.ensures
           ∙ added-later scope c.loop-atom.total v others i c.atom-item.result c.loop-atom.invariant.number c.value_of.ensures.number is within at
           ∙ c.loop-atom.invariant.whole;
     }

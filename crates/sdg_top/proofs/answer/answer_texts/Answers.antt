@@ -26,7 +26,7 @@ same_fields class other e = sym (fields-class_tree class) ∙ ap fields e ∙ fi
 pub returns-in-Takes-clause-due : goal.returns-in-Takes-clause-due
 returns-in-Takes-clause-due c =
     let taken = rw c.in-Takes.is at c.in_ok-class.ensures.judges in
-    IfOk-weaker c.answer_calls.result _ _ (λ a d. TakesClass c.in-Takes.class a.status a.text taken.0 taken.1 taken.2 d) c.answer_calls.ensures.due
+    IfOk-weaker c.answer_calls.result _ _ (λ a d. TakesClass c.in-Takes.class a.status a.text taken.0 taken.1 taken.2 taken.3 d) c.answer_calls.ensures.due
 
 pub returns-in-Takes-clause-complete : goal.returns-in-Takes-clause-complete
 returns-in-Takes-clause-complete c valid =
@@ -39,6 +39,7 @@ returns-in-Takes-clause-complete c valid =
 pub returns-in_ok-class_refused-in-Refuses-clause-due : goal.returns-in_ok-class_refused-in-Refuses-clause-due
 returns-in_ok-class_refused-in-Refuses-clause-due c =
     let refused = rw c.in-Refuses.is at c.in_ok-class.ensures.judges in
-    let text = c.in_ok-class_refused-in-Refuses.ensures ∙ ap (λ p. class_refused_line p c.in-Refuses.at.line c.in-Refuses.at.column) c.text.ensures in
+    let name = c.as_str.ensures.value ∙ c.in_ok-name-in-Refuses.ensures in
+    let text = c.in_ok-class_refused-in-Refuses.ensures ∙ ap (λ p. class_refused_line p c.in-Refuses.at.line c.in-Refuses.at.column) name in
     subst (λ (t : Text). DueForTexts c.args.class_text.now c.args.calls_text.now (option_copied c.args.schedule_text) status.Class t) (sym text)
     (RefusesClass _ c.in-Refuses.at refused)

@@ -1,56 +1,48 @@
-use Rattle.std.proofs.Common.{◌≡◌, ℕ, ◌<◌, ◌-◌, ◌^◌, sym, subst, ◌∙◌}
+use Rattle.std.proofs.Common.{List, Err, map, refl, sym, ap, subst, ◌∙◌}
 use Rattle.std.proofs.lemmas.Result.{IfOk-weaker}
-use Rattle.std.specs.Option.{option_copied, option_map}
-use Rattle.std.specs.String.{string_bytes}
+use Rattle.sdg_keep.specs.Endings.{file_asked, ending_of, AllRead, CutShort}
 use Rattle.sdg_top.specs.Accepted.{Text}
-use Rattle.sdg_top.specs.Due.{DueForLast, Told, told, AreValid}
-use Rattle.sdg_top.proofs.Dues.{class_unread, calls_unread, schedule_due, was_content, told_later}
+use Rattle.sdg_top.specs.Due.{run_texts, RunAsks}
+use Rattle.sdg_top.specs.Read.{AreRunTexts}
+use Rattle.sdg_top.proofs.Dues.{reads_as, reads_cut, run_whole, due_read, due_unread, told_run, told_unread}
 use Rattle.sdg_top.proofs.run.answer_run.Goals as goal
 
-pub returns-in-Not-clause-due : goal.returns-in-Not-clause-due
-returns-in-Not-clause-due g c = class_unread _ _ _ _ c.in-Not.answer (rw c.in-Not.is at c.in_ok-text.ensures.given)
+pub returns-in_err-asked-clause-reads : goal.returns-in_err-asked-clause-reads
+returns-in_err-asked-clause-reads g c = (_, CutShort, RunAsks _ _ _ refl, reads_cut _ _ _ _)
 
-pub returns-in-Not-2-clause-due : goal.returns-in-Not-2-clause-due
-returns-in-Not-2-clause-due g c =
-    let files = g.F.Files in
-    let first = rw c.in-Whole.is at c.in_ok-text.ensures.given in
-    calls_unread
-    (string_bytes c.args.class.now) (string_bytes c.args.calls.now) c.in-Whole.text (option_map string_bytes (option_copied c.args.schedule))
-    (files.content c.args.files.now) (files.content c.read_file.new.files)
-    (files.faults c.args.files.now) (files.faults c.read_file.new.files) (files.faults c.read_file-2.new.files)
-    (files.last_failed c.read_file-2.new.files) c.in-Not-2.answer
-    (c.in_ok-text.ensures.same (string_bytes c.args.calls.now)) first.0 first.1 (rw c.in-Not-2.is at c.in_ok-text-2.ensures.given)
+pub answer_read-requires : goal.answer_read-requires
+answer_read-requires g c =
+    let files_are = ap (map file_asked) c.deref.ensures.value ∙ c.in_ok-asked.ensures.files in
+    subst (λ (w : List Text). AreRunTexts w) (sym c.as_slice.ensures) (run_whole _ _ _ _ c.in-Ok.texts (reads_as _ _ _ _ files_are c.in-Ok.ensures.reads))
+
+pub returns-in-Ok-clause-due : goal.returns-in-Ok-clause-due
+returns-in-Ok-clause-due g c =
+    let files_are = ap (map file_asked) c.deref.ensures.value ∙ c.in_ok-asked.ensures.files in
+    due_read _ _ _ _ c.in-Ok.texts c.answer_read.result (reads_as _ _ _ _ files_are c.in-Ok.ensures.reads) (λ a b o e. c.answer_read.ensures.due a b o (c.as_slice.ensures ∙ e))
+
+pub returns-in-Ok-clause-complete : goal.returns-in-Ok-clause-complete
+returns-in-Ok-clause-complete g c class_text calls_text schedule_text all valid no_fault =
+    let files_are = ap (map file_asked) c.deref.ensures.value ∙ c.in_ok-asked.ensures.files in
+    c.answer_read.ensures.complete class_text calls_text schedule_text (c.as_slice.ensures ∙ told_run _ _ (run_texts class_text calls_text schedule_text) c.in-Ok.texts all (reads_as _ _ _ _ files_are c.in-Ok.ensures.reads)) valid
+
+pub returns-in-Ok-clause-reads : goal.returns-in-Ok-clause-reads
+returns-in-Ok-clause-reads g c =
+    let files_are = ap (map file_asked) c.deref.ensures.value ∙ c.in_ok-asked.ensures.files in
+    (_, AllRead c.in-Ok.texts, RunAsks _ _ _ refl, reads_as _ _ _ _ files_are c.in-Ok.ensures.reads)
 
 pub returns-clause-due : goal.returns-clause-due
 returns-clause-due g c =
-    let files = g.F.Files in
-    let first = rw c.in-Whole.is at c.in_ok-text.ensures.given in
-    let second = rw c.in-Whole-2.is at c.in_ok-text-2.ensures.given in
-    let name = option_map string_bytes (option_copied c.args.schedule) in
-    let same = c.in_ok-text.ensures.same in
-    let later : (other : Text) → files.content c.read_file-2.new.files other ≡ files.content c.args.files.now other = λ other. c.in_ok-text-2.ensures.same other ∙ same other in
-    let third : Told = told files.content files.faults files.last_failed c.read_file-2.new.files c.answer_last.new.files in
-    IfOk-weaker c.answer_last.result _ _ (λ a d.
-    schedule_due
-    (string_bytes c.args.class.now) (string_bytes c.args.calls.now) c.in-Whole.text name
-    (files.content c.args.files.now) (files.content c.read_file-2.new.files)
-    (files.faults c.args.files.now) (files.faults c.read_file-2.new.files) (files.faults c.answer_last.new.files)
-    (files.last_failed c.answer_last.new.files) c.in-Whole-2.text a.status a.text
-    later (second.0 ∙ first.0) first.1 (rw (same (string_bytes c.args.calls.now)) at second.1)
-    (subst (λ (t : Text). DueForLast name t c.in-Whole-2.text third a.status a.text) c.as_slice.ensures (subst (λ (t : Text). DueForLast name c.as_slice.result.now t third a.status a.text) c.as_slice-2.ensures d)))
-    c.answer_last.ensures.due
+    let files_are = ap (map file_asked) c.deref.ensures.value ∙ c.in_ok-asked.ensures.files in
+    IfOk-weaker c.answer_unread.result _ _ (λ a why. due_unread _ _ _ (ending_of (Err c.in-Err.error)) a (RunAsks _ _ _ refl) (reads_as _ _ _ _ files_are c.in-Err.ensures.reads) why) c.answer_unread.ensures
 
 pub returns-clause-complete : goal.returns-clause-complete
-returns-clause-complete g c all no_fault =
-    let files = g.F.Files in
-    let first = rw c.in-Whole.is at c.in_ok-text.ensures.given in
-    let second = rw c.in-Whole-2.is at c.in_ok-text-2.ensures.given in
-    let same = c.in_ok-text.ensures.same in
-    let class = c.as_slice.ensures ∙ was_content _ _ c.in-Whole.text all.class_text first.1 all.class_told in
-    let calls = c.as_slice-2.ensures ∙ was_content _ _ c.in-Whole-2.text all.calls_text second.1 (same (string_bytes c.args.calls.now) ∙ all.calls_told) in
-    let valid : AreValid c.as_slice.result.now c.as_slice-2.result.now all.schedule_text =
-    subst (λ (t : Text). AreValid t c.as_slice-2.result.now all.schedule_text) (sym class) (subst (λ (t : Text). AreValid all.class_text t all.schedule_text) (sym calls) all.in_order) in
-    c.answer_last.ensures.complete all.schedule_text
-    (told_later (files.content c.args.files.now) (files.content c.read_file-2.new.files) _ all.schedule_text (λ other. c.in_ok-text-2.ensures.same other ∙ same other) all.schedule_told)
-    valid
-    (record { stays = no_fault.stays ∙ sym (second.0 ∙ first.0); below_end = subst (λ (n : ℕ). n < 2 ^ 64 - 1) (sym (second.0 ∙ first.0)) no_fault.below_end })
+returns-clause-complete g c class_text calls_text schedule_text all valid no_fault =
+    let files_are = ap (map file_asked) c.deref.ensures.value ∙ c.in_ok-asked.ensures.files in
+    IfOk-weaker c.answer_unread.result _ _
+    (λ a why. absurd (told_unread _ _ (run_texts class_text calls_text schedule_text) (ending_of (Err c.in-Err.error)) a all no_fault (reads_as _ _ _ _ files_are c.in-Err.ensures.reads) why))
+    c.answer_unread.ensures
+
+pub returns-clause-reads : goal.returns-clause-reads
+returns-clause-reads g c =
+    let files_are = ap (map file_asked) c.deref.ensures.value ∙ c.in_ok-asked.ensures.files in
+    (_, ending_of (Err c.in-Err.error), RunAsks _ _ _ refl, reads_as _ _ _ _ files_are c.in-Err.ensures.reads)

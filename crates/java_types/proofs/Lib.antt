@@ -1,0 +1,5 @@
+pub mod Firsts
+pub mod Lists
+pub mod Lookups
+pub mod Reaching
+pub mod Sizes

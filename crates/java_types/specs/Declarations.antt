@@ -1,0 +1,74 @@
+-- The fields and methods of a class.
+use Rattle.std.specs.Prelude.{ℕ, Bool, true, false, List, [], ◌∷◌, length, map, fold, Option, Some, None, if◌then◌else◌}
+use Rattle.std.specs.List.{list_any}
+use Rattle.std.specs.declared.alloc.Global.{Global}
+use Rattle.sdg_base.specs.declared.store.ClassName.{ClassName}
+use Rattle.java_tree.specs.declared.tree.Class.{Class}
+use Rattle.java_tree.specs.declared.tree.Member.{Member}
+use Rattle.java_tree.specs.declared.tree.Member.TheVariants as member
+use Rattle.java_tree.specs.declared.tree.Modifier.{Modifier}
+use Rattle.java_tree.specs.declared.tree.Modifier.TheVariants as modifier
+use Rattle.java_tree.specs.declared.tree.Field.{Field}
+use Rattle.java_tree.specs.declared.tree.Method.{Method}
+use Rattle.java_tree.specs.declared.tree.Param.{Param}
+use Rattle.java_tree.specs.declared.tree.ResultType.{ResultType}
+use Rattle.java_tree.specs.declared.tree.ResultType.TheVariants as result_types
+use Rattle.java_tree.specs.declared.types.ExprType.{ExprType}
+use Rattle.java_tree.specs.declared.types.ExprType.TheVariants.{Unknown, Void, Value, Collection, State}
+use Rattle.java_tree.specs.declared.types.Declaration.TheVariants as declaration
+use Rattle.java_types.specs.declared.walk.MethodKind.{MethodKind}
+use Rattle.java_types.specs.declared.walk.MethodKind.TheVariants.{Entry, Helper, Merge}
+use Rattle.java_types.specs.declared.walk.Signature.{Signature}
+use Rattle.java_types.specs.declared.walk.Variable.{Variable}
+use Rattle.java_types.specs.Names.{with_entry}
+use Rattle.java_types.specs.Words.{state_class}
+use Rattle.java_types.specs.Simples.{declared_type}
+
+abbrev pub state_or_none : Option ClassName → ExprType
+state_or_none None = Unknown
+state_or_none (Some c) = State c
+
+abbrev pub field_type : Field → ExprType
+field_type f = state_or_none (state_class f.type_name)
+
+abbrev pub result_type : ResultType → ExprType
+result_type result_types.Void = Void
+result_type (result_types.Type name) = declared_type name
+
+abbrev pub collection_of : ExprType → ExprType
+collection_of (Value t) = Collection t
+collection_of _ = Unknown
+
+abbrev pub param_type : Param → ExprType
+param_type p = if p.is_array then collection_of (declared_type p.type_name) else declared_type p.type_name
+
+abbrev pub is_private : Modifier → Bool
+is_private modifier.Public = false
+is_private modifier.Private = true
+is_private modifier.Static = false
+
+-- A method with `@Collection` is a merge method, another private one a helper, and every other an entry method.
+abbrev pub kind_of : Method → MethodKind
+kind_of m = if list_any (λ p. p.is_collection) m.params then Merge else (if list_any is_private m.modifiers then Helper else Entry)
+
+abbrev pub Fields : Type 0
+Fields = List (List ℕ × Variable)
+
+abbrev pub Methods : Type 0
+Methods = List (List ℕ × Signature)
+
+-- Fields and methods are numbered in text order.
+abbrev pub with_field : Fields → Member → Fields
+with_field fields (member.Field f) = with_entry f.name (record { declaration = declaration.Field (length fields); found = field_type f }) fields
+with_field fields (member.Method m) = fields
+
+abbrev pub with_method : Methods → Member → Methods
+with_method methods (member.Field f) = methods
+with_method methods (member.Method m) =
+    with_entry m.name (record { number = length methods; kind = kind_of m; result = result_type m.result; params = map param_type m.params }) methods
+
+abbrev pub fields_of : List Member → Fields
+fields_of = fold with_field []
+
+abbrev pub methods_of : List Member → Methods
+methods_of = fold with_method []

@@ -1,0 +1,154 @@
+//! The fields and methods of a class.
+
+ghost use Rattle.std.specs.Prelude.{◌≡◌, map, IfOk, OnOk};
+ghost use Rattle.std.specs.List.{list_any};
+ghost use Rattle.java_tree.specs.declared.tree.Member.TheVariants as members;
+ghost use Rattle.java_types.specs.Declarations as spec;
+ghost use Rattle.java_types.specs.Check.{env_of};
+
+use crate::names::Names;
+use crate::simples::declared_type;
+use crate::walk::{Env, MethodKind, Signature, Variable};
+use crate::words;
+use java_tree::{Class, Declaration, ExprType, Field, Member, Method, Modifier, Param, ResultType};
+use sqlite_items::Items;
+use std::alloc::{AllocError, Global};
+
+fn field_type(field: &Field) -> ExprType
+    ensures { result ≡ spec.field_type field.now }
+{
+    match words::state_class(field.type_name.as_slice()) {
+        Some(class) => ExprType::State(class),
+        None => ExprType::Unknown,
+    }
+}
+
+pub fn result_type(r: &ResultType) -> ExprType
+    ensures { result ≡ spec.result_type r.now }
+{
+    match r {
+        ResultType::Void => ExprType::Void,
+        ResultType::Type(name) => declared_type(name),
+    }
+}
+
+fn collection_of(found: ExprType) -> ExprType
+    ensures { result ≡ spec.collection_of found }
+{
+    match found {
+        ExprType::Value(item) => ExprType::Collection(item),
+        _ => ExprType::Unknown,
+    }
+}
+
+pub fn param_type(param: &Param) -> ExprType
+    ensures { result ≡ spec.param_type param.now }
+{
+    let found = declared_type(&param.type_name);
+    if param.is_array {
+        collection_of(found)
+    } else {
+        found
+    }
+}
+
+fn is_private(modifier: Modifier) -> bool
+    ensures { result ≡ spec.is_private modifier }
+{
+    match modifier {
+        Modifier::Private => true,
+        Modifier::Public | Modifier::Static => false,
+    }
+}
+
+fn takes_collection(params: &[Param]) -> bool
+    ensures { result ≡ list_any (λ p. p.is_collection) params.now }
+{
+    params.iter().any(|p| p.is_collection)
+}
+
+fn are_private(modifiers: &[Modifier]) -> bool
+    ensures { result ≡ list_any spec.is_private modifiers.now }
+{
+    modifiers.iter().any(|m| is_private(*m))
+}
+
+fn kind_of(method: &Method) -> MethodKind
+    ensures { result ≡ spec.kind_of method.now }
+{
+    if takes_collection(method.params.as_slice()) {
+        MethodKind::Merge
+    } else if are_private(method.modifiers.as_slice()) {
+        MethodKind::Helper
+    } else {
+        MethodKind::Entry
+    }
+}
+
+fn param_types(alloc: Global, params: &[Param]) -> Result<Items<ExprType>, AllocError>
+    ensures { IfOk result (λ types. types ≡ map spec.param_type params.now) }
+{
+    let mut types = Items::new(alloc);
+    for param in params {
+        types.push(param_type(param))?;
+    }
+    Ok(types)
+}
+
+fn add_field(fields: &mut Names<Variable>, field: &Field) -> Result<(), AllocError>
+    ensures { OnOk result (fields.new ≡ spec.with_field fields.old (members.Field field.now)) }
+{
+    let variable = Variable {
+        declaration: Declaration::Field(fields.len()),
+        found: field_type(field),
+    };
+    fields.add(field.name.as_slice(), variable)
+}
+
+fn add_method(
+    alloc: Global,
+    methods: &mut Names<Signature>,
+    method: &Method,
+) -> Result<(), AllocError>
+    ensures { OnOk result (methods.new ≡ spec.with_method methods.old (members.Method method.now)) }
+{
+    let signature = Signature {
+        number: methods.len(),
+        kind: kind_of(method),
+        result: result_type(&method.result),
+        params: param_types(alloc, method.params.as_slice())?,
+    };
+    methods.add(method.name.as_slice(), signature)
+}
+
+fn add_member(
+    alloc: Global,
+    fields: &mut Names<Variable>,
+    methods: &mut Names<Signature>,
+    member: &Member,
+) -> Result<(), AllocError>
+    ensures fields { OnOk result (fields.new ≡ spec.with_field fields.old member.now) }
+    ensures methods { OnOk result (methods.new ≡ spec.with_method methods.old member.now) }
+{
+    match member {
+        Member::Field(field) => add_field(fields, field),
+        Member::Method(method) => add_method(alloc, methods, method),
+    }
+}
+
+/// What is declared in a class.
+pub fn env_of(alloc: Global, class: &Class) -> Result<Env, AllocError>
+    ensures { IfOk result (λ env. env ≡ env_of class.now) }
+{
+    let mut fields = Names::new(alloc);
+    let mut methods = Names::new(alloc);
+    for member in class.members.as_slice() {
+        add_member(alloc, &mut fields, &mut methods, member)?;
+    }
+    Ok(Env {
+        limit: class.places.len(),
+        class_name: Items::from_slice(alloc, class.name.as_slice())?,
+        fields,
+        methods,
+    })
+}

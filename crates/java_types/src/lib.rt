@@ -1,0 +1,19 @@
+//! Names, types and the rules on them.
+#![tactic(auto)]
+
+mod calls;
+mod checking;
+mod declarations;
+mod error;
+mod expressions;
+mod fits;
+mod members;
+mod methods;
+mod names;
+mod simples;
+mod statements;
+mod walk;
+mod words;
+
+pub use checking::check;
+pub use error::TypeError;
