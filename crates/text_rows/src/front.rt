@@ -1,0 +1,115 @@
+//! What the front end says of a text.
+
+use crate::groups::grouped;
+use crate::texts::bytes_of;
+use crate::tokens::{counted, shown};
+use early_forms::straight_form;
+use java_flow::{FlowError, flow};
+use java_lexer::{LexError, lex};
+use java_parser::{ParseError, parse};
+use java_tree::{Class, Tokens};
+use java_types::{TypeError, check};
+use std::alloc::{AllocError, Global};
+use thiserror::Error;
+
+/// Why a text goes no further.
+#[derive(Debug, Drop, Error)]
+enum Refused {
+    #[error("a text of 4 GiB")]
+    Long,
+    #[error(transparent)]
+    Tokens(#[from] LexError),
+    #[error(transparent)]
+    Syntax(#[from] ParseError),
+    #[error(transparent)]
+    Types(#[from] TypeError),
+    #[error(transparent)]
+    Flow(#[from] FlowError),
+    #[error("out of memory")]
+    Memory(#[from(alloc)] AllocError),
+}
+
+fn tokens_of(alloc: Global, text: &str) -> Result<Tokens, Refused> {
+    let bytes = bytes_of(alloc, text)?;
+    if bytes.len() >= 0xffff_ffff {
+        return Err(Refused::Long);
+    }
+    Ok(lex(alloc, &bytes)?)
+}
+
+fn class_of(alloc: Global, text: &str) -> Result<Class, Refused> {
+    let tokens = tokens_of(alloc, text)?;
+    Ok(parse(alloc, &tokens)?)
+}
+
+/// How many types and names a class has.
+fn types(alloc: Global, text: &str) -> Result<String, Refused> {
+    let typed = check(alloc, class_of(alloc, text)?)?;
+    let (exprs, names) = (typed.types.exprs.len(), typed.types.names.len());
+    Ok(format!(in alloc; "{exprs} types, {names} names")?)
+}
+
+fn flow_of(alloc: Global, text: &str) -> Result<String, Refused> {
+    let typed = check(alloc, class_of(alloc, text)?)?;
+    flow(alloc, &typed)?;
+    Ok(String::from_str(alloc, "accepted")?)
+}
+
+/// Whether a class is of the straight form.
+fn form(alloc: Global, text: &str) -> Result<String, Refused> {
+    let class = class_of(alloc, text)?;
+    let is_straight = straight_form(alloc, &class).is_ok_and(|form| form.is_some());
+    let said = if is_straight {
+        "straight"
+    } else {
+        "not straight"
+    };
+    Ok(String::from_str(alloc, said)?)
+}
+
+/// Whether a class with the table `t` and these members behind it is of the straight form.
+fn members(alloc: Global, text: &str) -> Result<String, Refused> {
+    let text = format!(in alloc; "class C {{ @Partitioned Table t = new Table(); {text} }}")?;
+    form(alloc, text.as_str())
+}
+
+fn classified(alloc: Global, text: &str) -> Result<String, Refused> {
+    let _class = class_of(alloc, text)?;
+    Ok(String::from_str(alloc, "a class")?)
+}
+
+/// A class whose one method has this body.
+fn body(alloc: Global, text: &str) -> Result<String, Refused> {
+    let text = format!(in alloc; "class A {{ void f() {{ {text} }} }}")?;
+    classified(alloc, text.as_str())
+}
+
+/// A class whose one method returns this expression.
+fn groups(alloc: Global, text: &str) -> Result<String, Refused> {
+    let text = format!(in alloc; "class A {{ int f() {{ return {text}; }} }}")?;
+    let class = class_of(alloc, text.as_str())?;
+    Ok(grouped(alloc, &class)?)
+}
+
+fn answer(alloc: Global, kind: &str, text: &str) -> Result<String, Refused> {
+    match kind {
+        "tokens" => Ok(shown(alloc, &tokens_of(alloc, text)?)?),
+        "count" => Ok(counted(alloc, &tokens_of(alloc, text)?)?),
+        "class" => classified(alloc, text),
+        "body" => body(alloc, text),
+        "groups" => groups(alloc, text),
+        "types" => types(alloc, text),
+        "flow" => flow_of(alloc, text),
+        "form" => form(alloc, text),
+        "members" => members(alloc, text),
+        _ => Ok(format!(in alloc; "no kind of row: {kind}")?),
+    }
+}
+
+/// What is said of a text of this kind.
+pub(crate) fn said(alloc: Global, kind: &str, text: &str) -> Result<String, AllocError> {
+    match answer(alloc, kind, text) {
+        Ok(line) => Ok(line),
+        Err(refused) => format!(in alloc; "{refused}"),
+    }
+}

@@ -1,0 +1,19 @@
+//! What is said of a row, by its kind.
+
+use crate::front;
+use crate::lines::{calls, events, schedule};
+use crate::runs::{Named, run};
+use std::alloc::{AllocError, Global};
+
+/// What is said of a row, which is its kind and its text.
+pub(crate) fn said(alloc: Global, files: &[Named], row: &str) -> Result<String, AllocError> {
+    let (kind, text) = row.split_once(' ').unwrap_or((row, ""));
+    match kind {
+        "java2sdg" => run(alloc, files, text, true),
+        "ending" => run(alloc, files, text, false),
+        "calls" => calls(alloc, text),
+        "schedule" => schedule(alloc, text),
+        "events" => events(alloc, text),
+        _ => front::said(alloc, kind, text),
+    }
+}
