@@ -6,3 +6,4 @@ pub mod Simples
 pub mod Statements
 pub mod Seen
 pub mod Findings
+pub mod Laws

@@ -8,6 +8,7 @@ mod error;
 mod expressions;
 mod finding;
 mod judging;
+mod laws;
 mod members;
 mod names;
 mod parts;
@@ -18,3 +19,4 @@ mod walk;
 
 pub use checking::flow;
 pub use error::FlowError;
+pub use laws::passes_each_token;
