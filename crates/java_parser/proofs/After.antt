@@ -3,10 +3,10 @@ use Rattle.std.proofs.Common.{◌≡◌, ℕ, ◌+◌, ◌<◌, ◌≤◌, List,
 use Rattle.std.proofs.lemmas.List.{at_drop_more, at_drop_all}
 use Rattle.java_tree.specs.Tokens.{Kinds}
 use Rattle.java_parser.specs.declared.words.Wanted.{Wanted}
-use Rattle.java_parser.specs.Words.{◌>>=◌, kind_of, after_word, after}
+use Rattle.java_parser.specs.Words.{◌>>=◌, kind_of, after_token, after}
 
 pub after_one : (words : List Wanted) (d : Wanted) (i : ℕ) (rest : Kinds) → i < length words
-    → after (map kind_of (drop i words)) rest ≡ (after_word (kind_of (get_or words i d)) rest >>= after (map kind_of (drop (i + 1) words)))
+    → after (map kind_of (drop i words)) rest ≡ (after_token (kind_of (get_or words i d)) rest >>= after (map kind_of (drop (i + 1) words)))
 unfolding after
 after_one words d i rest lt = at_drop_more (λ ws. after (map kind_of ws) rest) words i d lt
 

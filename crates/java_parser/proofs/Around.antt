@@ -17,7 +17,7 @@ use Rattle.java_tree.specs.declared.tree.TypeName.TheVariants as type_name
 use Rattle.java_tree.specs.declared.tree.ResultType.TheVariants as result_type
 use Rattle.java_tree.specs.declared.tree.Param.{Param}
 use Rattle.java_tree.specs.Tokens.{Kinds, separated, annotation, qualified, package_tokens, import_tokens, modifier_tokens, field_modifier_tokens, field_tokens, type_tokens, result_tokens, param_tokens}
-use Rattle.java_parser.specs.Words.{same_word, begins, after, name_at}
+use Rattle.java_parser.specs.Words.{same_token, begins, after, name_at}
 use Rattle.java_parser.specs.Members.{dot, star, at_sign, assign, comma, semicolon, open_paren, close_paren, open_bracket, close_bracket, behind, optional_at, dotted_at, has_dotted, names_at, qualified_at, package_at, import_at, imports_at, modifier_of, modifier_ahead, has_modifier, first_is, modifier_at, modifiers_at, annotated, is_named, annotation_at, access_of, access_ahead, has_field_modifier, field_modifier_at, field_modifiers_at, field_at, type_of, type_ahead, type_at, result_at, param_at, other_param_at, other_params_at, params_at}
 use Rattle.java_parser.proofs.Laws.{bind_ok, same_Ok, chosen, then_is, Takes, Again, Any, given, after_takes, after_again, are_words, both, begins_same, name_takes, name_again, many_takes, Begins, all_again, separated-map}
 
@@ -59,7 +59,7 @@ unfolding dotted_at
 dotted_again name rest p g = then_is _ _ (k.Identifier name ∷ rest) _ (after_again (dot ∷ []) _ refl) (name_again name rest)
 
 dotted_begins : (is_import : Bool) → Begins (has_dotted is_import) dotted
-unfolding has_dotted behind begins same_word
+unfolding has_dotted behind begins same_token
 dotted_begins true = record { on = λ name rest. refl; off = refl }
 dotted_begins false = record { on = λ name rest. refl; off = refl }
 
@@ -81,11 +81,11 @@ qualified_again is_import q stop rest stops =
     (all_again (has_dotted is_import) dotted_at dotted Any Any Any (dotted_begins is_import) dotted_again (λ n ns q. (tt, tt)) (λ n t. tt) stop rest stops tt q.others tt) refl)
 
 semicolon_stops : (is_import : Bool) (rest : Kinds) → has_dotted is_import (semicolon ∷ rest) ≡ false
-unfolding has_dotted begins same_word
+unfolding has_dotted begins same_token
 semicolon_stops is_import rest = refl
 
 star_stops : (rest : Kinds) → has_dotted true (dot ∷ star ∷ rest) ≡ false
-unfolding has_dotted behind begins same_word
+unfolding has_dotted behind begins same_token
 star_stops rest = refl
 
 -- ---- packages and imports
@@ -139,11 +139,11 @@ names_end q true rest = qualified_again true q dot (star ∷ semicolon ∷ rest)
 names_end q false rest = qualified_again true q semicolon rest (semicolon_stops true rest)
 
 name_not_static : (name : List ℕ) (rest : Kinds) → begins (k.Reserved word.Static) (k.Identifier name ∷ rest) ≡ false
-unfolding begins same_word
+unfolding begins same_token
 name_not_static name rest = refl
 
 semicolon_not_dot : (rest : Kinds) → begins dot (semicolon ∷ rest) ≡ false
-unfolding begins same_word
+unfolding begins same_token
 semicolon_not_dot rest = refl
 
 import_again : Again import_at import_tokens Any Any
@@ -161,7 +161,7 @@ import_again i rest p g =
     (then_is _ _ rest _ (after_again (semicolon ∷ []) rest refl) refl))))
 
 import_begins : Begins (begins (k.Reserved word.Import)) import_tokens
-unfolding begins same_word
+unfolding begins same_token
 import_begins = record { on = λ i rest. refl; off = refl }
 
 pub imports_take : Takes imports_at (flat_map import_tokens)
@@ -277,7 +277,7 @@ unfolding is_named behind
 named_again name rest = begins_same (k.Identifier name) rest refl
 
 partial_is_other : (rest : Kinds) → is_named (codes "Partitioned") (annotation (codes "Partial") ++ rest) ≡ false
-unfolding is_named behind begins same_word
+unfolding is_named behind begins same_token
 partial_is_other rest = refl
 
 annotation_again : (name : List ℕ) (rest : Kinds) → field_modifier_at (annotation name ++ rest) ≡ annotation_at (annotation name ++ rest)
@@ -285,7 +285,7 @@ unfolding field_modifier_at
 annotation_again name rest = rw (begins_at (k.Identifier name ∷ rest)) refl
 
 reserved_not_at : (w : Reserved) (rest : Kinds) → begins at_sign (k.Reserved w ∷ rest) ≡ false
-unfolding begins same_word
+unfolding begins same_token
 reserved_not_at w rest = refl
 
 field_modifier_again : Again field_modifier_at field_modifier_tokens Any Any
@@ -309,7 +309,7 @@ unfolding has_field_modifier access_ahead modifier_ahead begins
 field_modifier_begins = record { on = field_modifier_on; off = refl }
 
 name_stops : (name : List ℕ) (rest : Kinds) → has_field_modifier (k.Identifier name ∷ rest) ≡ false
-unfolding has_field_modifier access_ahead modifier_ahead begins same_word
+unfolding has_field_modifier access_ahead modifier_ahead begins same_token
 name_stops name rest = refl
 
 pub field_takes : Takes field_at field_tokens
@@ -385,7 +385,7 @@ result_takes ks x e =
     ]
 
 type_not_void : (t : TypeName) (rest : Kinds) → begins (k.Reserved word.Void) (type_tokens t ++ rest) ≡ false
-unfolding begins same_word
+unfolding begins same_token
 type_not_void type_name.Int rest = refl
 type_not_void type_name.Long rest = refl
 type_not_void type_name.Boolean rest = refl
@@ -413,14 +413,14 @@ param_takes ks x e =
     given param_tokens ks (record { is_collection = a.0.0; type_name = b.0.0; is_array = c.0.0; name = d.0.0 }, d.0.1) x d.2 (simp append_assoc (cc))
 
 pub type_not_at : (t : TypeName) (rest : Kinds) → begins at_sign (type_tokens t ++ rest) ≡ false
-unfolding begins same_word
+unfolding begins same_token
 type_not_at type_name.Int rest = refl
 type_not_at type_name.Long rest = refl
 type_not_at type_name.Boolean rest = refl
 type_not_at (type_name.Named name) rest = refl
 
 name_not_bracket : (name : List ℕ) (rest : Kinds) → begins open_bracket (k.Identifier name ∷ rest) ≡ false
-unfolding begins same_word
+unfolding begins same_token
 name_not_bracket name rest = refl
 
 param_again : Again param_at param_tokens Any Any
@@ -449,22 +449,22 @@ unfolding other_param_at
 other_param_again q rest p g = then_is _ _ (param_tokens q ++ rest) _ (after_again (comma ∷ []) _ refl) (param_again q rest tt tt)
 
 pub comma_begins : {A : Type 0} (tokens : A → Kinds) → Begins (begins comma) (λ x. comma ∷ tokens x)
-unfolding begins same_word
+unfolding begins same_token
 comma_begins tokens = record { on = λ x rest. refl; off = refl }
 
 pub close_paren_stops : (rest : Kinds) → begins comma (close_paren ∷ rest) ≡ false
-unfolding begins same_word
+unfolding begins same_token
 close_paren_stops rest = refl
 
 type_not_close : (t : TypeName) (rest : Kinds) → begins close_paren (type_tokens t ++ rest) ≡ false
-unfolding begins same_word
+unfolding begins same_token
 type_not_close type_name.Int rest = refl
 type_not_close type_name.Long rest = refl
 type_not_close type_name.Boolean rest = refl
 type_not_close (type_name.Named name) rest = refl
 
 at_not_close : (rest : Kinds) → begins close_paren (at_sign ∷ rest) ≡ false
-unfolding begins same_word
+unfolding begins same_token
 at_not_close rest = refl
 
 param_not_close : (is_collection : Bool) (t : TypeName) (more rest : Kinds) → begins close_paren ((optional at_sign collection is_collection ++ (type_tokens t ++ more)) ++ rest) ≡ false

@@ -12,7 +12,7 @@ use Rattle.java_tree.specs.declared.tree.Stmt.{Stmt}
 use Rattle.java_tree.specs.Tokens.{Kinds, in_braces, local_tokens, simple_tokens, item_step, statement_step, item_tokens}
 use Rattle.java_tree.specs.Placed.{Ending, all_of, item_placed, statement_ending, is_placed_item}
 use Rattle.java_tree.specs.Heights.{greatest, item_layer_height, statement_layer_height, item_height}
-use Rattle.java_parser.specs.Words.{Reading, same_word, begins, after}
+use Rattle.java_parser.specs.Words.{Reading, same_token, begins, after}
 use Rattle.java_parser.specs.Members.{semicolon}
 use Rattle.java_parser.specs.Simples.{local_ahead, local_at}
 use Rattle.java_parser.specs.Statements.{open_brace, close_brace, else_word, has_more, item_at, items_at, block_at}
@@ -82,35 +82,35 @@ pub record BeginsStatement (ks : Kinds) : Type 0 where
   pub not_else : begins else_word ks ≡ false
 
 pub brace_begins : (rest : Kinds) → BeginsStatement (open_brace ∷ rest)
-unfolding local_ahead begins same_word has_more
+unfolding local_ahead begins same_token has_more
 brace_begins rest = record { not_local = refl; goes_on = refl; not_else = refl }
 
 pub semicolon_begins : (rest : Kinds) → BeginsStatement (semicolon ∷ rest)
-unfolding local_ahead begins same_word has_more
+unfolding local_ahead begins same_token has_more
 semicolon_begins rest = record { not_local = refl; goes_on = refl; not_else = refl }
 
 pub if_begins : (rest : Kinds) → BeginsStatement (k.Reserved word.If ∷ rest)
-unfolding local_ahead begins same_word has_more
+unfolding local_ahead begins same_token has_more
 if_begins rest = record { not_local = refl; goes_on = refl; not_else = refl }
 
 pub while_begins : (rest : Kinds) → BeginsStatement (k.Reserved word.While ∷ rest)
-unfolding local_ahead begins same_word has_more
+unfolding local_ahead begins same_token has_more
 while_begins rest = record { not_local = refl; goes_on = refl; not_else = refl }
 
 pub for_begins : (rest : Kinds) → BeginsStatement (k.Reserved word.For ∷ rest)
-unfolding local_ahead begins same_word has_more
+unfolding local_ahead begins same_token has_more
 for_begins rest = record { not_local = refl; goes_on = refl; not_else = refl }
 
 pub break_begins : (rest : Kinds) → BeginsStatement (k.Reserved word.Break ∷ rest)
-unfolding local_ahead begins same_word has_more
+unfolding local_ahead begins same_token has_more
 break_begins rest = record { not_local = refl; goes_on = refl; not_else = refl }
 
 pub continue_begins : (rest : Kinds) → BeginsStatement (k.Reserved word.Continue ∷ rest)
-unfolding local_ahead begins same_word has_more
+unfolding local_ahead begins same_token has_more
 continue_begins rest = record { not_local = refl; goes_on = refl; not_else = refl }
 
 pub return_begins : (rest : Kinds) → BeginsStatement (k.Reserved word.Return ∷ rest)
-unfolding local_ahead begins same_word has_more
+unfolding local_ahead begins same_token has_more
 return_begins rest = record { not_local = refl; goes_on = refl; not_else = refl }
 
 pub simple_statement_begins : (x : Simple) (rest : Kinds) → BeginsStatement ((simple_tokens x ++ semicolon ∷ []) ++ rest)
@@ -240,11 +240,11 @@ module _ (n : ℕ) (statement : Kinds → Reading Stmt) (reads : Reads n stateme
       kept (ItemsFit n) (b.0.0, c.0) x c.2 (many_keeps has_more (item_at n statement) (ItemFits n) (ItemsFit n) item_keeps (refl, omega arith) one_more_fits _ a.0 b.0 b.1)
 
   pub close_stops : (rest : Kinds) → has_more (close_brace ∷ rest) ≡ false
-  unfolding has_more same_word
+  unfolding has_more same_token
   close_stops rest = refl
 
   pub close_not_else : (rest : Kinds) → begins else_word (close_brace ∷ rest) ≡ false
-  unfolding begins same_word
+  unfolding begins same_token
   close_not_else rest = refl
 
   pub block_again : Again (block_at n statement) (λ is. in_braces (flat_map item_tokens is)) (ItemsFit n) Any

@@ -13,7 +13,7 @@ use Rattle.java_tree.specs.declared.tree.Modifier.TheVariants as modifier
 use Rattle.java_tree.specs.Tokens.{Kinds, package_tokens, import_tokens, modifier_tokens, member_tokens, kinds_of, token_at, tokens_of}
 use Rattle.java_tree.specs.Placed.{IsWellPlaced}
 use Rattle.java_tree.specs.Heights.{height, max_levels}
-use Rattle.java_parser.specs.Words.{Fault, kinds, refused, same_word, begins, after, name_at}
+use Rattle.java_parser.specs.Words.{kinds, refused, same_token, begins, after, name_at}
 use Rattle.java_parser.specs.Members.{has_modifier, modifier_ahead, package_at, imports_at, modifiers_at}
 use Rattle.java_parser.specs.Statements.{open_brace, close_brace, has_more}
 use Rattle.java_parser.specs.Classes.{member_at, members_at, is_empty, class_at, body_levels}
@@ -54,20 +54,20 @@ class_takes n places ks x e =
 
 -- the words before a class are those of no package and no import
 modifiers_head : (ms : List Modifier) (rest : Kinds) → begins (k.Reserved word.Package) (flat_map modifier_tokens ms ++ (k.Reserved word.Class ∷ rest)) ≡ false
-unfolding begins same_word
+unfolding begins same_token
 modifiers_head [] rest = refl
 modifiers_head (modifier.Public ∷ ms) rest = refl
 modifiers_head (modifier.Private ∷ ms) rest = refl
 modifiers_head (modifier.Static ∷ ms) rest = refl
 
 imports_head : (is : List Import) (ms : List Modifier) (rest : Kinds) → begins (k.Reserved word.Package) (flat_map import_tokens is ++ (flat_map modifier_tokens ms ++ (k.Reserved word.Class ∷ rest))) ≡ false
-unfolding begins same_word
+unfolding begins same_token
 imports_head [] ms rest = modifiers_head ms rest
 imports_head (i ∷ is) ms rest = refl
 
 class_imports : (is : List Import) (ms : List Modifier) (rest : Kinds)
     → imports_at (flat_map import_tokens is ++ (flat_map modifier_tokens ms ++ (k.Reserved word.Class ∷ rest))) ≡ Ok (is, flat_map modifier_tokens ms ++ (k.Reserved word.Class ∷ rest))
-unfolding begins same_word
+unfolding begins same_token
 class_imports is [] rest = imports_again (k.Reserved word.Class) rest refl is
 class_imports is (modifier.Public ∷ ms) rest = imports_again (k.Reserved word.Public) _ refl is
 class_imports is (modifier.Private ∷ ms) rest = imports_again (k.Reserved word.Private) _ refl is
@@ -78,7 +78,7 @@ unfolding modifier_ahead
 class_stops rest = refl
 
 close_stops : (rest : Kinds) → has_more (close_brace ∷ rest) ≡ false
-unfolding has_more same_word
+unfolding has_more same_token
 close_stops rest = refl
 
 class_again : (n : ℕ) (c : Class) → MembersFit n c.members → class_at n c.places (kinds_of c) ≡ Ok c

@@ -1,5 +1,5 @@
 -- The tokens of an expression that is well placed and on no more than the levels are read as it, where it ends behind them.
-use Rattle.std.proofs.Common.{◌≡◌, ℕ, zero, suc, ◌+◌, ◌-◌, ◌<◌, ◌≤◌, max, Bool, true, false, not, ◌&&◌, nat_eq, nat_lt, List, [], ◌∷◌, ◌++◌, length, map, codes, Some, Result, Ok, Err, ◌⊎◌, inl, inr, refl, sym, ap, subst, ◌∙◌, append_assoc, arith}
+use Rattle.std.proofs.Common.{◌≡◌, ℕ, zero, suc, ◌+◌, ◌-◌, ◌<◌, ◌≤◌, Bool, true, false, not, ◌&&◌, nat_eq, nat_lt, List, [], ◌∷◌, ◌++◌, length, map, codes, Some, Result, Ok, Err, ◌⊎◌, inl, inr, refl, sym, ap, subst, ◌∙◌, append_assoc, arith}
 use Rattle.std.proofs.lemmas.List.{length-append}
 use Rattle.std.proofs.lemmas.Bool.Decides.{Decides-ltb, Decides-eqb, nat_tests}
 use Rattle.std.specs.List.{flat_map}
@@ -22,7 +22,7 @@ use Rattle.java_tree.specs.Placed.{Standing, standing_of}
 use Rattle.java_tree.specs.Heights.{expr_height, call_height}
 use Rattle.java_parser.specs.declared.operands.Opening.{Opening}
 use Rattle.java_parser.specs.declared.operands.Opening.TheVariants as opening
-use Rattle.java_parser.specs.Words.{◌>>=◌, Fault, Reading, same_word, begins}
+use Rattle.java_parser.specs.Words.{◌>>=◌, Fault, Reading, same_token, begins}
 use Rattle.java_parser.specs.Members.{dot, at_sign, comma, open_paren, close_paren, open_bracket, close_bracket}
 use Rattle.java_parser.specs.Expressions.{question, colon, operator_ahead, operator_at, number_type_ahead, opening_of, is_other, begins_expr, follows, tail, valued, all_rows, value_in, other_value_in, other_values_in, values_in, args_in, of_in, own_in, member_in, of_member_in, index_in, named_in, called_in, cast_in, inner_in, paren_in, new_in, prefixed_in, operand_by, operand_in, row_from, row_in, conditional_in, looser_in, extended_in, read_in, read_at}
 use Rattle.java_parser.proofs.Laws.{bind_ok, then_is, Begins, after_again, begins_same, name_again, all_again, separated-map}
@@ -38,23 +38,23 @@ use Rattle.java_parser.proofs.Splits.{in_paren, in_maker, in_index, in_unary, in
 -- ---- words behind an expression
 
 pub paren_ends : (rest : Kinds) → follows 0 (close_paren ∷ rest) ≡ true
-unfolding follows operator_ahead begins same_word
+unfolding follows operator_ahead begins same_token
 paren_ends rest = refl
 
 bracket_ends : (rest : Kinds) → follows 0 (close_bracket ∷ rest) ≡ true
-unfolding follows operator_ahead begins same_word
+unfolding follows operator_ahead begins same_token
 bracket_ends rest = refl
 
 comma_ends : (rest : Kinds) → follows 0 (comma ∷ rest) ≡ true
-unfolding follows operator_ahead begins same_word
+unfolding follows operator_ahead begins same_token
 comma_ends rest = refl
 
 colon_ends : (rest : Kinds) → follows 0 (colon ∷ rest) ≡ true
-unfolding follows operator_ahead begins same_word
+unfolding follows operator_ahead begins same_token
 colon_ends rest = refl
 
 question_ends : (rest : Kinds) → follows 1 (question ∷ rest) ≡ true
-unfolding follows operator_ahead begins same_word
+unfolding follows operator_ahead begins same_token
 question_ends rest = refl
 
 abbrev Follows : Kinds → Type 0
@@ -153,7 +153,7 @@ module _ (n : ℕ) (deeper : ℕ → Kinds → Reading Expr) (d : Deeper n deepe
       subst P (value_is v) (valued_again (out-Value v).is_global (expr_of v) rest (in_value n v i) f)
 
   value_no_paren : (v : Value) (rest : Kinds) → SoundValue n v → Follows rest → begins close_paren (value_tokens v ++ rest) ≡ false
-  unfolding begins same_word
+  unfolding begins same_token
   value_no_paren v rest i f =
       let P : Value → Type 0 = λ w. begins close_paren (value_tokens w ++ rest) ≡ false in
       subst P (value_is v) (rw (valued_tokens (out-Value v).is_global (expr_of v), append_assoc (global (out-Value v).is_global) (expr_tokens (expr_of v)) rest)
@@ -170,7 +170,7 @@ module _ (n : ℕ) (deeper : ℕ → Kinds → Reading Expr) (d : Deeper n deepe
   other_value_again v rest i f = then_is _ _ (value_tokens v ++ rest) _ (after_again (comma ∷ []) (value_tokens v ++ rest) refl) (value_again v rest i f)
 
   other_value_begins : Begins (begins comma) other_value_tokens
-  unfolding begins same_word
+  unfolding begins same_token
   other_value_begins = record { on = λ v rest. refl; off = refl }
 
   others_follow : (values : List Value) (rest : Kinds) → Follows (flat_map other_value_tokens values ++ (close_paren ∷ rest))
@@ -178,7 +178,7 @@ module _ (n : ℕ) (deeper : ℕ → Kinds → Reading Expr) (d : Deeper n deepe
   others_follow (v ∷ values) rest = comma_ends ((value_tokens v ++ flat_map other_value_tokens values) ++ (close_paren ∷ rest))
 
   comma_stops : (rest : Kinds) → begins comma (close_paren ∷ rest) ≡ false
-  unfolding begins same_word
+  unfolding begins same_token
   comma_stops rest = refl
 
   others_again : (values : List Value) (rest : Kinds) → SoundValues n values → other_values_in deeper (flat_map other_value_tokens values ++ (close_paren ∷ rest)) ≡ Ok (values, close_paren ∷ rest)
@@ -207,7 +207,7 @@ module _ (n : ℕ) (deeper : ℕ → Kinds → Reading Expr) (d : Deeper n deepe
   -- ---- behind a name
 
   begins_args : (values : List Value) (rest : Kinds) → begins open_paren (args_tokens values ++ rest) ≡ true
-  unfolding args_tokens begins same_word
+  unfolding args_tokens begins same_token
   begins_args values rest = refl
 
   name_alone : (name : List ℕ) (rest : Kinds) → Ends 11 rest → named_in deeper name rest ≡ Ok (expr.Name name, rest)
@@ -219,11 +219,11 @@ module _ (n : ℕ) (deeper : ℕ → Kinds → Reading Expr) (d : Deeper n deepe
   own_again name args rest i = rw (begins_args args rest) (then_is _ _ (args, rest) _ (args_again args rest i) refl)
 
   after_dot : (name : List ℕ) (rest : Kinds) → named_in deeper name (dot ∷ rest) ≡ member_in deeper name rest
-  unfolding named_in tail begins same_word
+  unfolding named_in tail begins same_token
   after_dot name rest = refl
 
   after_bracket : (name : List ℕ) (rest : Kinds) → named_in deeper name (open_bracket ∷ rest) ≡ index_in deeper name rest
-  unfolding named_in tail begins same_word
+  unfolding named_in tail begins same_token
   after_bracket name rest = refl
 
   member_again : (object name : List ℕ) (rest : Kinds) → Ends 11 rest → named_in deeper object (dot ∷ k.Identifier name ∷ rest) ≡ Ok (expr.Member object name, rest)

@@ -1,6 +1,5 @@
 -- Reading an expression takes its tokens, and gives one that is well placed and on no more than the levels.
-use Rattle.std.proofs.Common.{◌≡◌, ℕ, zero, suc, ◌-◌, ◌≤◌, Bool, true, false, ◌&&◌, nat_eq, nat_lt, List, [], ◌∷◌, ◌++◌, length, map, codes, Option, Some, None, Ok, inl, inr, if◌then◌else◌, refl, sym, ap, subst, ◌∙◌, append_assoc, arith}
-use Rattle.std.proofs.lemmas.List.{append-nil}
+use Rattle.std.proofs.Common.{◌≡◌, ℕ, zero, suc, ◌-◌, ◌≤◌, Bool, true, false, nat_eq, nat_lt, List, [], ◌∷◌, ◌++◌, length, map, codes, Option, Some, None, Ok, inl, inr, if◌then◌else◌, refl, sym, ap, subst, ◌∙◌, append_assoc, arith}
 use Rattle.std.proofs.lemmas.Bool.Decides.{Decides-eqb, nat_tests}
 use Rattle.std.specs.List.{flat_map}
 use Rattle.sdg_base.specs.declared.operator.BinOp.{BinOp}
@@ -25,11 +24,11 @@ use Rattle.java_parser.specs.declared.operands.Opening.{Opening}
 use Rattle.java_parser.specs.declared.operands.Opening.TheVariants as opening
 use Rattle.java_parser.specs.Words.{◌>>=◌, Reading, refused, too_deep, begins, after, name_at}
 use Rattle.java_parser.specs.Members.{dot, at_sign, comma, open_paren, close_paren, open_bracket, close_bracket, optional_at}
-use Rattle.java_parser.specs.Expressions.{question, colon, binary_of, operator_ahead, of_level, operator_at, number_type_of, number_type_ahead, opening_word, opening_symbol, opening_of, begins_expr, tail, when_some, valued, all_rows, value_in, other_value_in, other_values_in, values_in, args_in, of_in, own_in, member_in, of_member_in, index_in, named_in, called_in, cast_in, inner_in, paren_in, new_in, prefixed_in, operand_by, operand_in, row_from, row_in, conditional_in, looser_in, extended_in, read_in, read_at, expr_at, value_at, args_at}
-use Rattle.java_parser.proofs.Laws.{both, bind_ok, same_Ok, chosen, Takes, Keeps, word_is, after_takes, name_takes, many_takes, many_keeps, separated-map}
+use Rattle.java_parser.specs.Expressions.{question, colon, binary_of, operator_ahead, of_level, operator_at, number_type_of, number_type_ahead, opening_reserved, opening_symbol, opening_of, begins_expr, tail, when_some, valued, all_rows, value_in, other_value_in, other_values_in, values_in, args_in, of_in, own_in, member_in, of_member_in, index_in, named_in, called_in, cast_in, inner_in, paren_in, new_in, prefixed_in, operand_by, operand_in, row_from, row_in, conditional_in, looser_in, extended_in, read_in, read_at, expr_at, value_at, args_at}
+use Rattle.java_parser.proofs.Laws.{bind_ok, same_Ok, chosen, Takes, Keeps, word_is, after_takes, name_takes, many_takes, many_keeps, separated-map}
 use Rattle.java_parser.proofs.Around.{optional, optional_takes}
 use Rattle.java_parser.proofs.TreeTokens.{args_tokens, conditional_tokens, binary_tokens, unary_tokens, cast_tokens, number_tokens, true_tokens, false_tokens, paren_tokens, maker_tokens, name_tokens, index_tokens, member_tokens, called_tokens, own_tokens, of_tokens, of_member_tokens, valued_tokens}
-use Rattle.java_parser.proofs.Sound.{Sound, SoundValue, SoundValues, looser, and_true, sound_number, sound_truth, sound_name, sound_member, sound_paren, sound_maker, sound_index, sound_unary, sound_cast, sound_called, sound_own, sound_of, sound_of_member, sound_conditional, sound_valued, sound_none, sound_more, sound_binary}
+use Rattle.java_parser.proofs.Sound.{Sound, SoundValue, SoundValues, looser, sound_number, sound_truth, sound_name, sound_member, sound_paren, sound_maker, sound_index, sound_unary, sound_cast, sound_called, sound_own, sound_of, sound_of_member, sound_conditional, sound_valued, sound_none, sound_more, sound_binary}
 
 -- ---- what the first tokens say
 
@@ -107,7 +106,7 @@ opening_symbol_is symbol.Tilde rest = refl
 opening_symbol_is symbol.Bang rest = refl
 opening_symbol_is _ rest = tt
 
-opening_word_is : (w : Reserved) (rest : Kinds) → opened (opening_word w) (k.Reserved w ∷ rest) rest
+opening_word_is : (w : Reserved) (rest : Kinds) → opened (opening_reserved w) (k.Reserved w ∷ rest) rest
 opening_word_is word.True rest = refl
 opening_word_is word.False rest = refl
 opening_word_is word.New rest = refl

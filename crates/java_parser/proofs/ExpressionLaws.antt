@@ -11,7 +11,7 @@ use Rattle.java_tree.specs.declared.tree.CallForm.TheOpen as layer
 use Rattle.java_tree.specs.Tokens.{Kinds, expr_tokens, value_tokens, call_tokens}
 use Rattle.java_tree.specs.Placed.{is_placed_expr, is_placed_value, is_placed_call}
 use Rattle.java_tree.specs.Heights.{expr_height, value_height, call_height}
-use Rattle.java_parser.specs.Words.{same_word, begins}
+use Rattle.java_parser.specs.Words.{same_token, begins}
 use Rattle.java_parser.specs.Members.{at_sign, semicolon, optional_at}
 use Rattle.java_parser.specs.Expressions.{opening_of, begins_expr, follows, all_rows, called_in, value_in, call_of, read_at, expr_at, value_at, call_at}
 use Rattle.java_parser.proofs.Laws.{bind_ok, same_Ok, then_is, Takes, Keeps, Again}
@@ -69,7 +69,7 @@ pub value_again : (n : ℕ) → Again (value_at n) value_tokens (IsValue n) (λ 
 value_again n v rest p f = value_in_again n (read_at n) (deeper n) v rest (record { placed = p.0; height = p.1 }) f
 
 at_no_semicolon : (ks rest : Kinds) → ks ≡ at_sign ∷ rest → begins semicolon ks ≡ false
-unfolding begins same_word
+unfolding begins same_token
 at_no_semicolon ks rest h = rw h refl
 
 value_starts : (n : ℕ) (ks : Kinds) (is_global : Bool) (x : Expr × Kinds) (rest : Kinds) → ks ≡ optional at_sign (k.Identifier (codes "Global") ∷ []) is_global ++ rest → expr_at n rest ≡ Ok x → begins semicolon ks ≡ false

@@ -1,8 +1,6 @@
 -- What may stand behind an expression.
-use Rattle.std.proofs.Common.{◌≡◌, ℕ, suc, ◌+◌, ◌<◌, ◌≤◌, Bool, true, false, not, ◌&&◌, nat_eq, List, [], ◌∷◌, ◌++◌, length, map, Option, Some, None, ◌⊎◌, inl, inr, refl, sym, ap, subst, ◌∙◌, append_assoc, arith}
-use Rattle.std.proofs.lemmas.Bool.Decides.{Decides-eqb, nat_tests}
-use Rattle.std.proofs.lemmas.List.{length-append}
-use Rattle.std.specs.List.{flat_map}
+use Rattle.std.proofs.Common.{◌≡◌, ℕ, suc, ◌<◌, ◌≤◌, Bool, true, false, not, ◌&&◌, nat_eq, [], ◌∷◌, length, Option, Some, None, ◌⊎◌, inl, inr, refl, arith}
+use Rattle.std.proofs.lemmas.Bool.Decides.{nat_tests}
 use Rattle.sdg_base.specs.declared.operator.BinOp.{BinOp}
 use Rattle.sdg_base.specs.declared.operator.BinOp.TheVariants as bin
 use Rattle.java_tree.specs.declared.token.Kind.{Kind}
@@ -12,9 +10,9 @@ use Rattle.java_tree.specs.declared.token.Reserved.TheVariants as word
 use Rattle.java_tree.specs.Levels.{operator_level}
 use Rattle.java_tree.specs.Tokens.{Kinds, operator_symbol}
 use Rattle.java_parser.specs.declared.operands.Opening.TheVariants as opening
-use Rattle.java_parser.specs.Words.{same_word, begins}
+use Rattle.java_parser.specs.Words.{same_token, begins}
 use Rattle.java_parser.specs.Members.{dot, open_paren, open_bracket}
-use Rattle.java_parser.specs.Expressions.{question, operator_ahead, of_level, operator_at, holds_from, follows, opening_of, opening_word, is_other, begins_expr, number_type_of, number_type_ahead}
+use Rattle.java_parser.specs.Expressions.{question, operator_ahead, of_level, operator_at, holds_from, follows, opening_of, opening_reserved, is_other, begins_expr, number_type_of, number_type_ahead}
 use Rattle.java_parser.proofs.Laws.{both, word_is}
 
 pub record Ends (level : ℕ) (rest : Kinds) : Type 0 where
@@ -86,7 +84,7 @@ operator_found bin.AndAlso rest = refl
 operator_found bin.OrElse rest = refl
 
 pub operator_follows : (op : BinOp) (rest : Kinds) → follows (suc (operator_level op)) (k.Symbol (operator_symbol op) ∷ rest) ≡ true
-unfolding follows operator_ahead begins same_word
+unfolding follows operator_ahead begins same_token
 operator_follows bin.Mul rest = refl
 operator_follows bin.Div rest = refl
 operator_follows bin.Rem rest = refl
@@ -138,12 +136,12 @@ pub not_opened : (w : Kind) (ks : Kinds) → ((rest : Kinds) → opening_of (w �
 unfolding begins_expr begins
 not_opened w [] other h = refl
 not_opened w (x ∷ rest) other h =
-    elim (same_or_not (same_word x w)) [
+    elim (same_or_not (same_token x w)) [
       | inl here ↦ absurd (let opens = other rest in let is : x ≡ w = word_is x w here in let closed : not (is_other (opening_of (x ∷ rest))) ≡ false = rw (is, opens) refl in cc)
       | inr nope ↦ nope
     ]
 
-type_word_other : (w : Reserved) → not (is_other (opening_word w)) ≡ true → number_type_of w ≡ None
+type_word_other : (w : Reserved) → not (is_other (opening_reserved w)) ≡ true → number_type_of w ≡ None
 type_word_other word.Int h = absurd cc
 type_word_other word.Long h = absurd cc
 type_word_other _ h = refl

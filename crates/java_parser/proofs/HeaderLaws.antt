@@ -10,7 +10,7 @@ use Rattle.java_tree.specs.Tokens.{Kinds, in_parentheses, expr_tokens, init_toke
 use Rattle.java_tree.specs.Placed.{all_of, is_placed_expr, is_placed_option, is_placed_simple, is_placed_init}
 use Rattle.java_tree.specs.Heights.{greatest, option_height, expr_height, simple_height, init_height}
 use Rattle.java_tree.specs.declared.tree.ForHeader.{ForHeader}
-use Rattle.java_parser.specs.Words.{◌>>=◌, Fault, Reading, same_word, begins, after}
+use Rattle.java_parser.specs.Words.{◌>>=◌, Fault, Reading, same_token, begins, after}
 use Rattle.java_parser.specs.Members.{comma, semicolon, open_paren, close_paren}
 use Rattle.java_parser.specs.Expressions.{expr_at}
 use Rattle.java_parser.specs.Simples.{local_ahead, local_at, simples_at}
@@ -52,7 +52,7 @@ init_keeps n ks x e =
     ]
 
 semicolon_not_comma : (rest : Kinds) → begins comma (semicolon ∷ rest) ≡ false
-unfolding begins same_word
+unfolding begins same_token
 semicolon_not_comma rest = refl
 
 init_again : (n : ℕ) (i : ForInit) (rest : Kinds) → InitFits n i → init_at n (init_tokens i ++ (semicolon ∷ rest)) ≡ Ok (i, semicolon ∷ rest)

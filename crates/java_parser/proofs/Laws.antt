@@ -10,7 +10,7 @@ use Rattle.java_tree.specs.contracts.token.Symbol.{the_type as symbols}
 use Rattle.java_tree.specs.declared.token.Kind.{Kind}
 use Rattle.java_tree.specs.declared.token.Kind.TheVariants as k
 use Rattle.java_tree.specs.Tokens.{Kinds}
-use Rattle.java_parser.specs.Words.{◌>>=◌, Fault, Reading, same_word, begins, after_word, after, name_at, many_at, all_at}
+use Rattle.java_parser.specs.Words.{◌>>=◌, Fault, Reading, same_token, begins, after_token, after, name_at, many_at, all_at}
 
 -- ---- steps
 
@@ -53,8 +53,8 @@ kept P y x e h = subst (λ (z : _ × Kinds). P z.0) (same_Ok y x e) h
 
 -- ---- words
 
-pub word_is : (x w : Kind) → same_word x w ≡ true → x ≡ w
-unfolding same_word
+pub word_is : (x w : Kind) → same_token x w ≡ true → x ≡ w
+unfolding same_token
 word_is (k.Identifier a) (k.Identifier b) h = ap (λ (name : List ℕ). k.Identifier name) ((bytes_eq-Decides a b).0 h)
 word_is (k.Reserved a) (k.Reserved b) h = ap k.Reserved (same_true reserved tt a b h)
 word_is (k.Symbol a) (k.Symbol b) h = ap k.Symbol (same_true symbols tt a b h)
@@ -69,11 +69,11 @@ word_is (k.Symbol a) (k.Number n d l) h = absurd cc
 word_is (k.Symbol a) (k.Reserved b) h = absurd cc
 word_is (k.Number n d l) w h = absurd cc
 
-word_takes : (w : Kind) (ks rest : Kinds) → after_word w ks ≡ Ok rest → ks ≡ w ∷ rest
-unfolding after_word
+word_takes : (w : Kind) (ks rest : Kinds) → after_token w ks ≡ Ok rest → ks ≡ w ∷ rest
+unfolding after_token
 word_takes w [] rest e = absurd cc
 word_takes w (x ∷ ks) rest e =
-    elim (chosen (same_word x w) (Ok ks) _ (Ok rest) e) [
+    elim (chosen (same_token x w) (Ok ks) _ (Ok rest) e) [
       | inl h ↦ let same : ks ≡ rest = same_Ok ks rest h.1 in ap (λ (y : Kind). y ∷ ks) (word_is x w h.0) ∙ ap (λ (t : Kinds). w ∷ t) same
       | inr h ↦ absurd cc
     ]
@@ -82,7 +82,7 @@ pub after_takes : (words ks rest : Kinds) → after words ks ≡ Ok rest → ks 
 unfolding after
 after_takes [] ks rest e = same_Ok ks rest e
 after_takes (w ∷ words) ks rest e =
-    let a = bind_ok (after_word w ks) (after words) rest e in
+    let a = bind_ok (after_token w ks) (after words) rest e in
     word_takes w ks a.0 a.1 ∙ ap (λ (t : Kinds). w ∷ t) (after_takes words a.0 rest a.2)
 
 abbrev pub is_word : Kind → Bool
@@ -99,15 +99,15 @@ pub both : (a b : Bool) → (a && b) ≡ true → (a ≡ true) × (b ≡ true)
 both true b e = (refl, e)
 both false b e = absurd cc
 
-pub same : (w : Kind) → is_word w ≡ true → same_word w w ≡ true
-unfolding same_word
+pub same : (w : Kind) → is_word w ≡ true → same_token w w ≡ true
+unfolding same_token
 same (k.Number n d l) h = absurd cc
 same (k.Identifier name) h = (bytes_eq-Decides name name).1 refl
 same (k.Reserved w) h = true_same reserved w w refl
 same (k.Symbol s) h = true_same symbols s s refl
 
 pub after_again : (words rest : Kinds) → are_words words ≡ true → after words (words ++ rest) ≡ Ok rest
-unfolding after after_word
+unfolding after after_token
 after_again [] rest h = refl
 after_again (w ∷ words) rest h = let p = both (is_word w) (are_words words) h in rw (same w p.0) (after_again words rest p.1)
 

@@ -8,7 +8,7 @@ use Rattle.java_tree.specs.declared.tree.Value.{Value}
 use Rattle.java_tree.specs.Tokens.{Kinds, type_tokens, local_tokens, initialiser, value_tokens}
 use Rattle.java_tree.specs.Placed.{is_placed_value, is_placed_option, is_placed_local}
 use Rattle.java_tree.specs.Heights.{option_height, value_height, local_height}
-use Rattle.java_parser.specs.Words.{same_word, begins, after, name_at}
+use Rattle.java_parser.specs.Words.{same_token, begins, after, name_at}
 use Rattle.java_parser.specs.Members.{at_sign, assign, semicolon, behind, optional_at, is_named, type_at}
 use Rattle.java_parser.specs.Expressions.{value_at}
 use Rattle.java_parser.specs.Simples.{inside, begins_name, local_ahead, initialiser_at, local_at}
@@ -98,14 +98,14 @@ pub record BeginsLocal (ks : Kinds) : Type 0 where
   pub not_else : begins else_word ks ≡ false
 
 type_begins : (t : TypeName) (name : List ℕ) (rest : Kinds) → BeginsLocal (type_tokens t ++ (k.Identifier name ∷ rest))
-unfolding local_ahead begins_name begins same_word has_more
+unfolding local_ahead begins_name begins same_token has_more
 type_begins type_name.Int name rest = record { is_local = refl; not_semicolon = refl; goes_on = refl; not_else = refl }
 type_begins type_name.Long name rest = record { is_local = refl; not_semicolon = refl; goes_on = refl; not_else = refl }
 type_begins type_name.Boolean name rest = record { is_local = refl; not_semicolon = refl; goes_on = refl; not_else = refl }
 type_begins (type_name.Named a) name rest = record { is_local = refl; not_semicolon = refl; goes_on = refl; not_else = refl }
 
 partial_begins : (rest : Kinds) → BeginsLocal (at_sign ∷ partial ++ rest)
-unfolding local_ahead is_named behind begins same_word has_more
+unfolding local_ahead is_named behind begins same_token has_more
 partial_begins rest = record { is_local = refl; not_semicolon = refl; goes_on = refl; not_else = refl }
 
 head_begins : (is_partial : Bool) (t : TypeName) (name : List ℕ) (rest : Kinds) → BeginsLocal (optional at_sign partial is_partial ++ (type_tokens t ++ (k.Identifier name ∷ rest)))

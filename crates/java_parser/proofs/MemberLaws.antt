@@ -17,7 +17,7 @@ use Rattle.java_tree.specs.declared.tree.Member.TheVariants as member
 use Rattle.java_tree.specs.Tokens.{Kinds, in_parentheses, in_braces, separated, modifier_tokens, field_modifier_tokens, field_tokens, result_tokens, param_tokens, item_tokens, method_tokens, member_tokens}
 use Rattle.java_tree.specs.Placed.{all_of, is_placed_member}
 use Rattle.java_tree.specs.Heights.{greatest, member_height}
-use Rattle.java_parser.specs.Words.{same_word, begins, after, name_at}
+use Rattle.java_parser.specs.Words.{same_token, begins, after, name_at}
 use Rattle.java_parser.specs.Members.{at_sign, assign, open_paren, close_paren, behind, has_modifier, modifier_ahead, access_ahead, access_of, modifiers_at, field_at, result_at, params_at}
 use Rattle.java_parser.specs.Simples.{begins_name}
 use Rattle.java_parser.specs.Statements.{has_more, block_at, statement_at}
@@ -135,11 +135,11 @@ unfolding field_ahead access_ahead modifier_ahead access_of
 private_goes_on rest = refl
 
 pub annotation_declares : (rest : Kinds) → field_ahead (at_sign ∷ rest) ≡ true
-unfolding field_ahead access_ahead modifier_ahead declares begins same_word
+unfolding field_ahead access_ahead modifier_ahead declares begins same_token
 annotation_declares rest = refl
 
 pub type_declares : (type_name name : List ℕ) (rest : Kinds) → field_ahead (k.Identifier type_name ∷ k.Identifier name ∷ assign ∷ rest) ≡ true
-unfolding field_ahead access_ahead modifier_ahead declares initialises begins_name behind begins same_word
+unfolding field_ahead access_ahead modifier_ahead declares initialises begins_name behind begins same_token
 type_declares type_name name rest = refl
 
 pub field_is_ahead : (ms : List FieldModifier) (type_name name : List ℕ) (rest : Kinds) → field_ahead (flat_map field_modifier_tokens ms ++ (k.Identifier type_name ∷ k.Identifier name ∷ assign ∷ rest)) ≡ true
@@ -150,11 +150,11 @@ field_is_ahead (field_modifier.Public ∷ ms) type_name name rest = public_goes_
 field_is_ahead (field_modifier.Private ∷ ms) type_name name rest = private_goes_on _ ∙ field_is_ahead ms type_name name rest
 
 pub static_declares : (rest : Kinds) → field_ahead (k.Reserved word.Static ∷ rest) ≡ false
-unfolding field_ahead access_ahead modifier_ahead access_of declares begins_name begins same_word
+unfolding field_ahead access_ahead modifier_ahead access_of declares begins_name begins same_token
 static_declares rest = refl
 
 pub result_declares : (r : ResultType) (name : List ℕ) (rest : Kinds) → field_ahead (result_tokens r ++ (k.Identifier name ∷ open_paren ∷ rest)) ≡ false
-unfolding field_ahead access_ahead modifier_ahead declares initialises begins_name behind begins same_word
+unfolding field_ahead access_ahead modifier_ahead declares initialises begins_name behind begins same_token
 result_declares result_type.Void name rest = refl
 result_declares (result_type.Type type_name.Int) name rest = refl
 result_declares (result_type.Type type_name.Long) name rest = refl
@@ -181,7 +181,7 @@ member_again n (member.Method m) rest p g =
 
 -- what the tokens of a member begin with
 pub field_begins : (ms : List FieldModifier) (type_name : List ℕ) (rest : Kinds) → has_more (flat_map field_modifier_tokens ms ++ (k.Identifier type_name ∷ rest)) ≡ true
-unfolding has_more same_word
+unfolding has_more same_token
 field_begins [] type_name rest = refl
 field_begins (field_modifier.Partitioned ∷ ms) type_name rest = refl
 field_begins (field_modifier.Partial ∷ ms) type_name rest = refl
@@ -189,7 +189,7 @@ field_begins (field_modifier.Public ∷ ms) type_name rest = refl
 field_begins (field_modifier.Private ∷ ms) type_name rest = refl
 
 pub result_begins : (r : ResultType) (rest : Kinds) → has_more (result_tokens r ++ rest) ≡ true
-unfolding has_more same_word
+unfolding has_more same_token
 result_begins result_type.Void rest = refl
 result_begins (result_type.Type type_name.Int) rest = refl
 result_begins (result_type.Type type_name.Long) rest = refl
@@ -197,7 +197,7 @@ result_begins (result_type.Type type_name.Boolean) rest = refl
 result_begins (result_type.Type (type_name.Named t)) rest = refl
 
 pub method_begins : (ms : List Modifier) (r : ResultType) (rest : Kinds) → has_more (flat_map modifier_tokens ms ++ (result_tokens r ++ rest)) ≡ true
-unfolding has_more same_word
+unfolding has_more same_token
 method_begins [] r rest = result_begins r rest
 method_begins (modifier.Public ∷ ms) r rest = refl
 method_begins (modifier.Private ∷ ms) r rest = refl

@@ -17,7 +17,7 @@ use Rattle.java_tree.specs.Tokens.{Kinds, assign_symbol, simple_tokens, value_to
 use Rattle.java_parser.specs.declared.forms.SimpleForm.{SimpleForm}
 use Rattle.java_parser.specs.declared.forms.SimpleForm.TheVariants as form
 use Rattle.java_parser.specs.declared.forms.StatementForm.TheVariants as statement
-use Rattle.java_parser.specs.Words.{same_word, begins}
+use Rattle.java_parser.specs.Words.{same_token, begins}
 use Rattle.java_parser.specs.Members.{semicolon, close_paren, behind, is_named}
 use Rattle.java_parser.specs.Forms.{form_behind, simple_form, statement_form}
 use Rattle.java_parser.specs.Simples.{begins_name, local_ahead}
@@ -43,7 +43,7 @@ pub record BeginsSimple (f : SimpleForm) (ks : Kinds) : Type 0 where
   pub not_else : begins else_word ks ≡ false
 
 named_head : (s : Symbol) (name : List ℕ) (more : Kinds) → BeginsSimple (form_behind s) (k.Identifier name ∷ k.Symbol s ∷ more)
-unfolding simple_form local_ahead begins_name begins same_word statement_form has_more
+unfolding simple_form local_ahead begins_name begins same_token statement_form has_more
 named_head s name more = record { form_is = refl; not_local = refl; not_semicolon = refl; not_close = refl; statement_is = refl; goes_on = refl; not_else = refl }
 
 call_layer_begins : (x : CallForm-F CallForm Expr Value) (rest : Kinds) → BeginsSimple form.Call (call_tokens (roll-CallForm x) ++ rest)
@@ -72,7 +72,7 @@ assign_is assigned.Shr = refl
 assign_is assigned.UShr = refl
 
 pub simple_begins : (x : Simple) (rest : Kinds) → BeginsSimple (form_of x) (simple_tokens x ++ rest)
-unfolding simple_form local_ahead begins_name is_named behind begins same_word statement_form has_more
+unfolding simple_form local_ahead begins_name is_named behind begins same_token statement_form has_more
 simple_begins (simple.Assign name op v) rest = subst (λ f. BeginsSimple f (k.Identifier name ∷ k.Symbol (assign_symbol op) ∷ (value_tokens v ++ rest))) (assign_is op) (named_head (assign_symbol op) name (value_tokens v ++ rest))
 simple_begins (simple.PostIncrement name) rest = named_head symbol.PlusPlus name rest
 simple_begins (simple.PostDecrement name) rest = named_head symbol.MinusMinus name rest

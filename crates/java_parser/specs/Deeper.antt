@@ -8,7 +8,7 @@ use Rattle.java_tree.specs.declared.tree.Expr.{Expr}
 use Rattle.java_tree.specs.declared.tree.Value.{Value}
 use Rattle.java_tree.specs.Heights.{greatest, expr_height, value_height}
 use Rattle.java_parser.specs.declared.error.Refusal.{Refusal}
-use Rattle.java_parser.specs.Words.{Reading, Gives, kinds}
+use Rattle.java_parser.specs.Words.{Reading, ReturnsReading, kinds}
 use Rattle.java_parser.specs.Expressions.{read_at}
 
 -- a thing, how many levels it leaves, and the tokens after it
@@ -19,7 +19,7 @@ unfoldable pub values_height : List Value → ℕ
 values_height values = greatest (map value_height values)
 
 abbrev pub Finds : {A : Type 0} → Result (Found A) Refusal → Reading A → Type 0
-Finds r read = Gives (λ x. (x.0, kinds x.2.now)) r read
+Finds r read = ReturnsReading (λ x. (x.0, kinds x.2.now)) r read
 
 -- what is left of the levels around the thing
 abbrev pub Measures : {A : Type 0} → (A → ℕ) → ℕ → Result (Found A) Refusal → Type 0

@@ -1,7 +1,7 @@
 -- Reading expressions (JLS 15). Each is read with a number of levels on which it may stand inside itself, and goes on with
 -- operators that hold loosely enough: 0 is for an operand of a unary operator, 1 and more also for the rows of operators
 -- from the tightest level on, and 11 also for a conditional.
-use Rattle.std.specs.Prelude.{ℕ, zero, suc, ◌-◌, Bool, true, false, not, ◌&&◌, if◌then◌else◌, nat_eq, nat_lt, nat_le, List, [], ◌∷◌, ◌++◌, length, Option, Some, None, Ok, codes}
+use Rattle.std.specs.Prelude.{ℕ, zero, suc, ◌-◌, Bool, true, false, not, ◌&&◌, if◌then◌else◌, nat_eq, nat_lt, nat_le, List, [], ◌∷◌, length, Option, Some, None, Ok, codes}
 use Rattle.sdg_base.specs.declared.operator.BinOp.{BinOp}
 use Rattle.sdg_base.specs.declared.operator.BinOp.TheVariants as bin
 use Rattle.sdg_base.specs.declared.operator.UnOp.{UnOp}
@@ -83,11 +83,11 @@ number_type_ahead (k.Reserved w ∷ rest) = number_type_of w
 number_type_ahead _ = None
 
 -- what the first token of an operand makes it
-abbrev pub opening_word : Reserved → Opening
-opening_word word.True = opening.Truth true
-opening_word word.False = opening.Truth false
-opening_word word.New = opening.New
-opening_word _ = opening.Other
+abbrev pub opening_reserved : Reserved → Opening
+opening_reserved word.True = opening.Truth true
+opening_reserved word.False = opening.Truth false
+opening_reserved word.New = opening.New
+opening_reserved _ = opening.Other
 
 abbrev pub opening_symbol : Symbol → Opening
 opening_symbol symbol.OpenParen = opening.Paren
@@ -101,7 +101,7 @@ unfoldable pub opening_of : Kinds → Opening
 opening_of [] = opening.Other
 opening_of (k.Identifier name ∷ rest) = opening.Name
 opening_of (k.Number digits decimal long ∷ rest) = opening.Number digits decimal long
-opening_of (k.Reserved w ∷ rest) = opening_word w
+opening_of (k.Reserved w ∷ rest) = opening_reserved w
 opening_of (k.Symbol s ∷ rest) = opening_symbol s
 
 abbrev pub is_other : Opening → Bool

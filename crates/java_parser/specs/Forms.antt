@@ -4,9 +4,10 @@ use Rattle.java_tree.specs.declared.token.Reserved.{Reserved}
 use Rattle.java_tree.specs.declared.token.Reserved.TheVariants as word
 use Rattle.java_tree.specs.declared.token.Symbol.{Symbol}
 use Rattle.java_tree.specs.declared.token.Symbol.TheVariants as symbol
+use Rattle.java_tree.specs.declared.tree.AssignOp.{AssignOp}
 use Rattle.java_tree.specs.declared.tree.AssignOp.TheVariants as assigned
 use Rattle.java_tree.specs.Tokens.{Kinds}
-use Rattle.std.specs.Prelude.{◌∷◌, if◌then◌else◌}
+use Rattle.std.specs.Prelude.{◌∷◌, if◌then◌else◌, Option, Some, None}
 use denote.Enum.Bare.{sameb}
 use Rattle.java_tree.specs.contracts.token.Reserved.{the_type as reserved}
 use Rattle.java_parser.specs.declared.forms.SimpleForm.{SimpleForm}
@@ -21,22 +22,29 @@ form_before symbol.MinusMinus = simple.PreDecrement
 form_before symbol.At = simple.GlobalCall
 form_before _ = simple.Call
 
+abbrev pub assignment_of : Symbol → Option AssignOp
+assignment_of symbol.Assign = Some assigned.Assign
+assignment_of symbol.PlusAssign = Some assigned.Add
+assignment_of symbol.MinusAssign = Some assigned.Sub
+assignment_of symbol.StarAssign = Some assigned.Mul
+assignment_of symbol.SlashAssign = Some assigned.Div
+assignment_of symbol.PercentAssign = Some assigned.Rem
+assignment_of symbol.AmpersandAssign = Some assigned.And
+assignment_of symbol.BarAssign = Some assigned.Or
+assignment_of symbol.CaretAssign = Some assigned.Xor
+assignment_of symbol.ShiftLeftAssign = Some assigned.Shl
+assignment_of symbol.ShiftRightAssign = Some assigned.Shr
+assignment_of symbol.ShiftRightUnsignedAssign = Some assigned.UShr
+assignment_of _ = None
+
+abbrev pub form_assigned : Option AssignOp → SimpleForm
+form_assigned (Some op) = simple.Assign op
+form_assigned None = simple.Call
+
 abbrev pub form_behind : Symbol → SimpleForm
 form_behind symbol.PlusPlus = simple.PostIncrement
 form_behind symbol.MinusMinus = simple.PostDecrement
-form_behind symbol.Assign = simple.Assign assigned.Assign
-form_behind symbol.PlusAssign = simple.Assign assigned.Add
-form_behind symbol.MinusAssign = simple.Assign assigned.Sub
-form_behind symbol.StarAssign = simple.Assign assigned.Mul
-form_behind symbol.SlashAssign = simple.Assign assigned.Div
-form_behind symbol.PercentAssign = simple.Assign assigned.Rem
-form_behind symbol.AmpersandAssign = simple.Assign assigned.And
-form_behind symbol.BarAssign = simple.Assign assigned.Or
-form_behind symbol.CaretAssign = simple.Assign assigned.Xor
-form_behind symbol.ShiftLeftAssign = simple.Assign assigned.Shl
-form_behind symbol.ShiftRightAssign = simple.Assign assigned.Shr
-form_behind symbol.ShiftRightUnsignedAssign = simple.Assign assigned.UShr
-form_behind _ = simple.Call
+form_behind other = form_assigned (assignment_of other)
 
 unfoldable pub simple_form : Kinds → SimpleForm
 simple_form (k.Symbol s ∷ rest) = form_before s
@@ -45,8 +53,8 @@ simple_form _ = simple.Call
 
 -- which statement the first token begins
 
-abbrev pub word_form : Reserved → StatementForm
-word_form w =
+abbrev pub reserved_form : Reserved → StatementForm
+reserved_form w =
     if sameb reserved w word.If then statement.If
     else if sameb reserved w word.While then statement.While
     else if sameb reserved w word.For then statement.For
@@ -61,6 +69,6 @@ symbol_form symbol.Semicolon = statement.Empty
 symbol_form _ = statement.Simple
 
 unfoldable pub statement_form : Kinds → StatementForm
-statement_form (k.Reserved w ∷ rest) = word_form w
+statement_form (k.Reserved w ∷ rest) = reserved_form w
 statement_form (k.Symbol s ∷ rest) = symbol_form s
 statement_form _ = statement.Simple

@@ -27,11 +27,15 @@ unfoldable pub begins_name : Kinds → Bool
 begins_name (k.Identifier name ∷ rest) = true
 begins_name _ = false
 
+abbrev pub is_partial_ahead : Kinds → Bool
+is_partial_ahead rest = begins at_sign rest && is_named (codes "Partial") rest
+
 -- A local begins with its annotation, or with its type and its name.
 unfoldable pub local_ahead : Kinds → Bool
 local_ahead (k.Reserved w ∷ rest) = is_some (type_of w)
 local_ahead (k.Identifier name ∷ rest) = begins_name rest
-local_ahead rest = begins at_sign rest && is_named (codes "Partial") rest
+local_ahead (k.Symbol s ∷ rest) = is_partial_ahead (k.Symbol s ∷ rest)
+local_ahead _ = false
 
 unfoldable pub initialiser_at : ℕ → Kinds → Reading (Option Value)
 initialiser_at n rest = if begins assign rest then (do

@@ -15,7 +15,7 @@ use Rattle.java_tree.specs.declared.tree.Value.{Value}
 use Rattle.java_tree.specs.Tokens.{Kinds}
 use Rattle.java_parser.specs.declared.forms.StatementForm.{StatementForm}
 use Rattle.java_parser.specs.declared.forms.StatementForm.TheVariants as form
-use Rattle.java_parser.specs.Words.{◌>>=◌, Fault, Reading, too_deep, same_word, begins, after, all_at}
+use Rattle.java_parser.specs.Words.{◌>>=◌, Fault, Reading, too_deep, same_token, begins, after, all_at}
 use Rattle.java_parser.specs.Members.{semicolon, open_paren, close_paren}
 use Rattle.java_parser.specs.Expressions.{expr_at, value_at}
 use Rattle.java_parser.specs.Forms.{statement_form}
@@ -34,7 +34,7 @@ else_word = k.Reserved word.Else
 -- a block goes on until its brace closes, or the tokens end
 unfoldable pub has_more : Kinds → Bool
 has_more [] = false
-has_more (x ∷ rest) = not (same_word x close_brace)
+has_more (x ∷ rest) = not (same_token x close_brace)
 
 unfoldable pub item_at : ℕ → (Kinds → Reading Stmt) → Kinds → Reading BlockItem
 item_at n statement rest = if local_ahead rest then (do

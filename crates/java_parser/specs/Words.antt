@@ -41,9 +41,9 @@ Fails refusal.Memory read = Unit {0}
 Fails (refusal.NoClass left) read = read ≡ Err (NoClass left)
 Fails (refusal.TooDeep left) read = read ≡ Err (TooDeep left)
 
-abbrev pub Gives : {X Y : Type 0} → (X → Y) → Result X Refusal → Result Y Fault → Type 0
-Gives view (Ok x) read = read ≡ Ok (view x)
-Gives view (Err e) read = Fails e read
+abbrev pub ReturnsReading : {X Y : Type 0} → (X → Y) → Result X Refusal → Result Y Fault → Type 0
+ReturnsReading view (Ok x) read = read ≡ Ok (view x)
+ReturnsReading view (Err e) read = Fails e read
 
 abbrev pub kind_of : Wanted → Kind
 kind_of (wanted.Reserved w) = k.Reserved w
@@ -51,24 +51,24 @@ kind_of (wanted.Symbol s) = k.Symbol s
 kind_of (wanted.Name name) = k.Identifier name.now
 
 -- whether a token is a word; a number is none
-unfoldable pub same_word : Kind → Kind → Bool
-same_word (k.Identifier a) (k.Identifier b) = bytes_eq a b
-same_word (k.Reserved a) (k.Reserved b) = sameb reserved a b
-same_word (k.Symbol a) (k.Symbol b) = sameb symbols a b
-same_word _ _ = false
+unfoldable pub same_token : Kind → Kind → Bool
+same_token (k.Identifier a) (k.Identifier b) = bytes_eq a b
+same_token (k.Reserved a) (k.Reserved b) = sameb reserved a b
+same_token (k.Symbol a) (k.Symbol b) = sameb symbols a b
+same_token _ _ = false
 
 unfoldable pub begins : Kind → Kinds → Bool
 begins w [] = false
-begins w (x ∷ rest) = same_word x w
+begins w (x ∷ rest) = same_token x w
 
 -- what follows a word, and what follows several
-unfoldable pub after_word : Kind → Kinds → Result Kinds Fault
-after_word w [] = refused []
-after_word w (x ∷ rest) = if same_word x w then Ok rest else refused (x ∷ rest)
+unfoldable pub after_token : Kind → Kinds → Result Kinds Fault
+after_token w [] = refused []
+after_token w (x ∷ rest) = if same_token x w then Ok rest else refused (x ∷ rest)
 
 unfoldable pub after : Kinds → Kinds → Result Kinds Fault
 after [] rest = Ok rest
-after (w ∷ words) rest = after_word w rest >>= after words
+after (w ∷ words) rest = after_token w rest >>= after words
 
 unfoldable pub name_at : Kinds → Reading (List ℕ)
 name_at (k.Identifier name ∷ rest) = Ok (name, rest)

@@ -1,7 +1,7 @@
 //! The rules for methods, members and the class.
 
 ghost use Rattle.std.specs.Prelude.{◌≡◌, map, IfOk};
-ghost use Rattle.java_parser.specs.Words.{Gives, kinds};
+ghost use Rattle.java_parser.specs.Words.{ReturnsReading, kinds};
 ghost use Rattle.java_parser.specs.Members.{behind};
 ghost use Rattle.java_parser.specs.Classes as spec;
 
@@ -63,7 +63,7 @@ fn field_ahead(tokens: &[Token]) -> bool
 
 #[tactic(auto, unfolding(crate::specs::Classes::method_at))]
 fn method(alloc: Global, levels: usize, tokens: &[Token]) -> Result<(Method, &[Token]), Refusal>
-    ensures { Gives (λ x. (x.0, kinds x.1.now)) result (spec.method_at levels (kinds tokens.now)) }
+    ensures { ReturnsReading (λ x. (x.0, kinds x.1.now)) result (spec.method_at levels (kinds tokens.now)) }
 {
     let (modifiers, rest) = modifiers(alloc, tokens)?;
     let (kind, rest) = result_type(alloc, rest)?;
@@ -86,7 +86,7 @@ fn method(alloc: Global, levels: usize, tokens: &[Token]) -> Result<(Method, &[T
 
 #[tactic(auto, unfolding(crate::specs::Classes::member_at))]
 fn member(alloc: Global, levels: usize, tokens: &[Token]) -> Result<(Member, &[Token]), Refusal>
-    ensures { Gives (λ x. (x.0, kinds x.1.now)) result (spec.member_at levels (kinds tokens.now)) }
+    ensures { ReturnsReading (λ x. (x.0, kinds x.1.now)) result (spec.member_at levels (kinds tokens.now)) }
 {
     if field_ahead(tokens) {
         let (field, rest) = field(alloc, tokens)?;
@@ -103,7 +103,7 @@ fn members(
     levels: usize,
     tokens: &[Token],
 ) -> Result<(Items<Member>, &[Token]), Refusal>
-    ensures { Gives (λ x. (x.0, kinds x.1.now)) result (spec.members_at levels (kinds tokens.now)) }
+    ensures { ReturnsReading (λ x. (x.0, kinds x.1.now)) result (spec.members_at levels (kinds tokens.now)) }
 {
     let mut members = Items::new(alloc);
     let mut rest = tokens;
@@ -132,7 +132,7 @@ fn places(alloc: Global, tokens: &[Token]) -> Result<Items<Place>, AllocError>
 /// The class that all of the tokens are, with this many levels inside the bodies of its methods.
 #[tactic(auto, unfolding(crate::specs::Classes::class_at))]
 pub(crate) fn class(alloc: Global, levels: usize, tokens: &[Token]) -> Result<Class, Refusal>
-    ensures { Gives (λ x. x) result (spec.class_at levels (map (λ t. t.place) tokens.now) (kinds tokens.now)) }
+    ensures { ReturnsReading (λ x. x) result (spec.class_at levels (map (λ t. t.place) tokens.now) (kinds tokens.now)) }
 {
     let places = places(alloc, tokens)?;
     let (package, rest) = package(alloc, tokens)?;

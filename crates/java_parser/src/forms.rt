@@ -43,25 +43,43 @@ fn form_before(symbol: Symbol) -> SimpleForm
     }
 }
 
+/// The assignment that a symbol is (JLS 15.26).
+fn assignment_of(symbol: Symbol) -> Option<AssignOp>
+    ensures { result ≡ spec.assignment_of symbol }
+{
+    match symbol {
+        Symbol::Assign => Some(AssignOp::Assign),
+        Symbol::PlusAssign => Some(AssignOp::Add),
+        Symbol::MinusAssign => Some(AssignOp::Sub),
+        Symbol::StarAssign => Some(AssignOp::Mul),
+        Symbol::SlashAssign => Some(AssignOp::Div),
+        Symbol::PercentAssign => Some(AssignOp::Rem),
+        Symbol::AmpersandAssign => Some(AssignOp::And),
+        Symbol::BarAssign => Some(AssignOp::Or),
+        Symbol::CaretAssign => Some(AssignOp::Xor),
+        Symbol::ShiftLeftAssign => Some(AssignOp::Shl),
+        Symbol::ShiftRightAssign => Some(AssignOp::Shr),
+        Symbol::ShiftRightUnsignedAssign => Some(AssignOp::UShr),
+        _ => None,
+    }
+}
+
+fn form_assigned(op: Option<AssignOp>) -> SimpleForm
+    ensures { result ≡ spec.form_assigned op }
+{
+    match op {
+        Some(op) => SimpleForm::Assign(op),
+        None => SimpleForm::Call,
+    }
+}
+
 fn form_behind(symbol: Symbol) -> SimpleForm
     ensures { result ≡ spec.form_behind symbol }
 {
     match symbol {
         Symbol::PlusPlus => SimpleForm::PostIncrement,
         Symbol::MinusMinus => SimpleForm::PostDecrement,
-        Symbol::Assign => SimpleForm::Assign(AssignOp::Assign),
-        Symbol::PlusAssign => SimpleForm::Assign(AssignOp::Add),
-        Symbol::MinusAssign => SimpleForm::Assign(AssignOp::Sub),
-        Symbol::StarAssign => SimpleForm::Assign(AssignOp::Mul),
-        Symbol::SlashAssign => SimpleForm::Assign(AssignOp::Div),
-        Symbol::PercentAssign => SimpleForm::Assign(AssignOp::Rem),
-        Symbol::AmpersandAssign => SimpleForm::Assign(AssignOp::And),
-        Symbol::BarAssign => SimpleForm::Assign(AssignOp::Or),
-        Symbol::CaretAssign => SimpleForm::Assign(AssignOp::Xor),
-        Symbol::ShiftLeftAssign => SimpleForm::Assign(AssignOp::Shl),
-        Symbol::ShiftRightAssign => SimpleForm::Assign(AssignOp::Shr),
-        Symbol::ShiftRightUnsignedAssign => SimpleForm::Assign(AssignOp::UShr),
-        _ => SimpleForm::Call,
+        other => form_assigned(assignment_of(other)),
     }
 }
 
@@ -93,8 +111,8 @@ pub(crate) fn simple_form(tokens: &[Token]) -> SimpleForm
     }
 }
 
-fn word_form(word: Reserved) -> StatementForm
-    ensures { result ≡ spec.word_form word }
+fn reserved_form(word: Reserved) -> StatementForm
+    ensures { result ≡ spec.reserved_form word }
 {
     if word == Reserved::If {
         StatementForm::If
@@ -135,7 +153,7 @@ pub(crate) fn statement_form(tokens: &[Token]) -> StatementForm
                 ..
             },
             ..
-        ] => word_form(*word),
+        ] => reserved_form(*word),
         [
             Token {
                 kind: Kind::Symbol(symbol),

@@ -1,7 +1,7 @@
 //! The rules for the header of a `for`.
 
 ghost use Rattle.std.specs.Prelude.{◌≡◌};
-ghost use Rattle.java_parser.specs.Words.{Gives, kinds};
+ghost use Rattle.java_parser.specs.Words.{ReturnsReading, kinds};
 ghost use Rattle.java_parser.specs.Headers as spec;
 
 use crate::error::Refusal;
@@ -14,7 +14,7 @@ use std::alloc::Global;
 
 #[tactic(auto, unfolding(crate::specs::Headers::init_at))]
 fn for_init(alloc: Global, levels: usize, tokens: &[Token]) -> Result<(ForInit, &[Token]), Refusal>
-    ensures { Gives (λ x. (x.0, kinds x.1.now)) result (spec.init_at levels (kinds tokens.now)) }
+    ensures { ReturnsReading (λ x. (x.0, kinds x.1.now)) result (spec.init_at levels (kinds tokens.now)) }
 {
     if begins(tokens, Wanted::Symbol(Symbol::Semicolon)) {
         return Ok((ForInit::Nothing, tokens));
@@ -33,7 +33,7 @@ fn condition(
     levels: usize,
     tokens: &[Token],
 ) -> Result<(Option<Expr>, &[Token]), Refusal>
-    ensures { Gives (λ x. (x.0, kinds x.1.now)) result (spec.condition_at levels (kinds tokens.now)) }
+    ensures { ReturnsReading (λ x. (x.0, kinds x.1.now)) result (spec.condition_at levels (kinds tokens.now)) }
 {
     if begins(tokens, Wanted::Symbol(Symbol::Semicolon)) {
         return Ok((None, tokens));
@@ -48,7 +48,7 @@ fn update(
     levels: usize,
     tokens: &[Token],
 ) -> Result<(Items<Simple>, &[Token]), Refusal>
-    ensures { Gives (λ x. (x.0, kinds x.1.now)) result (spec.update_at levels (kinds tokens.now)) }
+    ensures { ReturnsReading (λ x. (x.0, kinds x.1.now)) result (spec.update_at levels (kinds tokens.now)) }
 {
     if begins(tokens, Wanted::Symbol(Symbol::CloseParen)) {
         return Ok((Items::new(alloc), tokens));
@@ -59,7 +59,7 @@ fn update(
 /// `for` and its header, to the first semicolon.
 #[tactic(auto, unfolding(crate::specs::Headers::opening_at))]
 fn opening(alloc: Global, levels: usize, tokens: &[Token]) -> Result<(ForInit, &[Token]), Refusal>
-    ensures { Gives (λ x. (x.0, kinds x.1.now)) result (spec.opening_at levels (kinds tokens.now)) }
+    ensures { ReturnsReading (λ x. (x.0, kinds x.1.now)) result (spec.opening_at levels (kinds tokens.now)) }
 {
     let rest = after(
         tokens,
@@ -80,7 +80,7 @@ fn closing(
     levels: usize,
     tokens: &[Token],
 ) -> Result<(Items<Simple>, &[Token]), Refusal>
-    ensures { Gives (λ x. (x.0, kinds x.1.now)) result (spec.closing_at levels (kinds tokens.now)) }
+    ensures { ReturnsReading (λ x. (x.0, kinds x.1.now)) result (spec.closing_at levels (kinds tokens.now)) }
 {
     let (update, rest) = update(alloc, levels, tokens)?;
     let rest = after(rest, &[Wanted::Symbol(Symbol::CloseParen)])?;
@@ -94,7 +94,7 @@ fn going_on(
     levels: usize,
     tokens: &[Token],
 ) -> Result<((Option<Expr>, Items<Simple>), &[Token]), Refusal>
-    ensures { Gives (λ x. (x.0, kinds x.1.now)) result (spec.going_on_at levels (kinds tokens.now)) }
+    ensures { ReturnsReading (λ x. (x.0, kinds x.1.now)) result (spec.going_on_at levels (kinds tokens.now)) }
 {
     let (test, rest) = condition(alloc, levels, tokens)?;
     let rest = after(rest, &[Wanted::Symbol(Symbol::Semicolon)])?;
@@ -109,7 +109,7 @@ pub(crate) fn for_header(
     levels: usize,
     tokens: &[Token],
 ) -> Result<(ForHeader, &[Token]), Refusal>
-    ensures { Gives (λ x. (x.0, kinds x.1.now)) result (spec.header_at levels (kinds tokens.now)) }
+    ensures { ReturnsReading (λ x. (x.0, kinds x.1.now)) result (spec.header_at levels (kinds tokens.now)) }
 {
     let (init, rest) = opening(alloc, levels, tokens)?;
     let ((test, update), rest) = going_on(alloc, levels, rest)?;

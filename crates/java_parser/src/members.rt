@@ -2,7 +2,7 @@
 //! and parameters.
 
 ghost use Rattle.std.specs.Prelude.{◌≡◌, map, is_some};
-ghost use Rattle.java_parser.specs.Words.{Gives, kinds, kind_of, begins};
+ghost use Rattle.java_parser.specs.Words.{ReturnsReading, kinds, kind_of, begins};
 ghost use Rattle.java_parser.specs.Members as spec;
 
 use crate::error::Refusal;
@@ -34,7 +34,7 @@ pub(crate) fn optional<'t>(
     first: Wanted<'_>,
     others: &[Wanted<'_>],
 ) -> Result<(bool, &'t [Token]), Refusal>
-    ensures { Gives (λ x. (x.0, kinds x.1.now)) result (spec.optional_at (kind_of first.entry) (map kind_of others.now) (kinds tokens.now)) }
+    ensures { ReturnsReading (λ x. (x.0, kinds x.1.now)) result (spec.optional_at (kind_of first.entry) (map kind_of others.now) (kinds tokens.now)) }
 {
     if !begins(tokens, first) {
         return Ok((false, tokens));
@@ -46,7 +46,7 @@ pub(crate) fn optional<'t>(
 
 #[tactic(auto, unfolding(crate::specs::Members::dotted_at))]
 fn dotted(alloc: Global, tokens: &[Token]) -> Result<(Name, &[Token]), Refusal>
-    ensures { Gives (λ x. (x.0, kinds x.1.now)) result (spec.dotted_at (kinds tokens.now)) }
+    ensures { ReturnsReading (λ x. (x.0, kinds x.1.now)) result (spec.dotted_at (kinds tokens.now)) }
 {
     let rest = after(tokens, &[Wanted::Symbol(Symbol::Dot)])?;
     name(alloc, rest)
@@ -66,7 +66,7 @@ fn names(
     is_import: bool,
     tokens: &[Token],
 ) -> Result<(Items<Name>, &[Token]), Refusal>
-    ensures { Gives (λ x. (x.0, kinds x.1.now)) result (spec.names_at is_import (kinds tokens.now)) }
+    ensures { ReturnsReading (λ x. (x.0, kinds x.1.now)) result (spec.names_at is_import (kinds tokens.now)) }
 {
     let mut names = Items::new(alloc);
     let mut rest = tokens;
@@ -87,7 +87,7 @@ fn qualified(
     is_import: bool,
     tokens: &[Token],
 ) -> Result<(QualifiedName, &[Token]), Refusal>
-    ensures { Gives (λ x. (x.0, kinds x.1.now)) result (spec.qualified_at is_import (kinds tokens.now)) }
+    ensures { ReturnsReading (λ x. (x.0, kinds x.1.now)) result (spec.qualified_at is_import (kinds tokens.now)) }
 {
     let (first, rest) = name(alloc, tokens)?;
     let (others, rest) = names(alloc, is_import, rest)?;
@@ -99,7 +99,7 @@ pub(crate) fn package(
     alloc: Global,
     tokens: &[Token],
 ) -> Result<(Option<QualifiedName>, &[Token]), Refusal>
-    ensures { Gives (λ x. (x.0, kinds x.1.now)) result (spec.package_at (kinds tokens.now)) }
+    ensures { ReturnsReading (λ x. (x.0, kinds x.1.now)) result (spec.package_at (kinds tokens.now)) }
 {
     if !begins(tokens, Wanted::Reserved(Reserved::Package)) {
         return Ok((None, tokens));
@@ -112,7 +112,7 @@ pub(crate) fn package(
 
 #[tactic(auto, unfolding(crate::specs::Members::import_at))]
 fn import(alloc: Global, tokens: &[Token]) -> Result<(Import, &[Token]), Refusal>
-    ensures { Gives (λ x. (x.0, kinds x.1.now)) result (spec.import_at (kinds tokens.now)) }
+    ensures { ReturnsReading (λ x. (x.0, kinds x.1.now)) result (spec.import_at (kinds tokens.now)) }
 {
     let rest = after(tokens, &[Wanted::Reserved(Reserved::Import)])?;
     let (is_static, rest) = optional(rest, Wanted::Reserved(Reserved::Static), &[])?;
@@ -135,7 +135,7 @@ fn import(alloc: Global, tokens: &[Token]) -> Result<(Import, &[Token]), Refusal
 
 /// The imports. Each takes a token, so there are no more turns than tokens.
 pub(crate) fn imports(alloc: Global, tokens: &[Token]) -> Result<(Items<Import>, &[Token]), Refusal>
-    ensures { Gives (λ x. (x.0, kinds x.1.now)) result (spec.imports_at (kinds tokens.now)) }
+    ensures { ReturnsReading (λ x. (x.0, kinds x.1.now)) result (spec.imports_at (kinds tokens.now)) }
 {
     let mut imports = Items::new(alloc);
     let mut rest = tokens;
@@ -186,7 +186,7 @@ fn has_modifier(tokens: &[Token]) -> bool
 /// A thing that the first token alone is.
 #[tactic(auto, unfolding(crate::specs::Members::first_is))]
 fn first_is<T: Copy>(thing: Option<T>, tokens: &[Token]) -> Result<(T, &[Token]), Refusal>
-    ensures { Gives (λ x. (x.0, kinds x.1.now)) result (spec.first_is thing (kinds tokens.now)) }
+    ensures { ReturnsReading (λ x. (x.0, kinds x.1.now)) result (spec.first_is thing (kinds tokens.now)) }
 {
     match (thing, tokens) {
         (Some(thing), [_, rest @ ..]) => Ok((thing, rest)),
@@ -196,7 +196,7 @@ fn first_is<T: Copy>(thing: Option<T>, tokens: &[Token]) -> Result<(T, &[Token])
 
 #[tactic(auto, unfolding(crate::specs::Members::modifier_at))]
 fn modifier(tokens: &[Token]) -> Result<(Modifier, &[Token]), Refusal>
-    ensures { Gives (λ x. (x.0, kinds x.1.now)) result (spec.modifier_at (kinds tokens.now)) }
+    ensures { ReturnsReading (λ x. (x.0, kinds x.1.now)) result (spec.modifier_at (kinds tokens.now)) }
 {
     first_is(modifier_ahead(tokens), tokens)
 }
@@ -206,7 +206,7 @@ pub(crate) fn modifiers(
     alloc: Global,
     tokens: &[Token],
 ) -> Result<(Items<Modifier>, &[Token]), Refusal>
-    ensures { Gives (λ x. (x.0, kinds x.1.now)) result (spec.modifiers_at (kinds tokens.now)) }
+    ensures { ReturnsReading (λ x. (x.0, kinds x.1.now)) result (spec.modifiers_at (kinds tokens.now)) }
 {
     let mut modifiers = Items::new(alloc);
     let mut rest = tokens;
@@ -224,7 +224,7 @@ pub(crate) fn modifiers(
 /// The tokens after `@` and this name.
 #[tactic(auto, unfolding(crate::specs::Members::annotated))]
 pub(crate) fn annotated<'t>(tokens: &'t [Token], name: &[u8]) -> Result<&'t [Token], Refusal>
-    ensures { Gives (λ rest. kinds rest.now) result (spec.annotated name.now (kinds tokens.now)) }
+    ensures { ReturnsReading (λ rest. kinds rest.now) result (spec.annotated name.now (kinds tokens.now)) }
 {
     after(tokens, &[Wanted::Symbol(Symbol::At), Wanted::Name(name)])
 }
@@ -239,7 +239,7 @@ pub(crate) fn is_named(tokens: &[Token], name: &[u8]) -> bool
 
 #[tactic(auto, unfolding(crate::specs::Members::annotation_at))]
 fn annotation(tokens: &[Token]) -> Result<(FieldModifier, &[Token]), Refusal>
-    ensures { Gives (λ x. (x.0, kinds x.1.now)) result (spec.annotation_at (kinds tokens.now)) }
+    ensures { ReturnsReading (λ x. (x.0, kinds x.1.now)) result (spec.annotation_at (kinds tokens.now)) }
 {
     if is_named(tokens, b"Partitioned") {
         let rest = annotated(tokens, b"Partitioned")?;
@@ -279,7 +279,7 @@ fn has_field_modifier(tokens: &[Token]) -> bool
 
 #[tactic(auto, unfolding(crate::specs::Members::field_modifier_at))]
 fn field_modifier(tokens: &[Token]) -> Result<(FieldModifier, &[Token]), Refusal>
-    ensures { Gives (λ x. (x.0, kinds x.1.now)) result (spec.field_modifier_at (kinds tokens.now)) }
+    ensures { ReturnsReading (λ x. (x.0, kinds x.1.now)) result (spec.field_modifier_at (kinds tokens.now)) }
 {
     if begins(tokens, Wanted::Symbol(Symbol::At)) {
         annotation(tokens)
@@ -293,7 +293,7 @@ fn field_modifiers(
     alloc: Global,
     tokens: &[Token],
 ) -> Result<(Items<FieldModifier>, &[Token]), Refusal>
-    ensures { Gives (λ x. (x.0, kinds x.1.now)) result (spec.field_modifiers_at (kinds tokens.now)) }
+    ensures { ReturnsReading (λ x. (x.0, kinds x.1.now)) result (spec.field_modifiers_at (kinds tokens.now)) }
 {
     let mut modifiers = Items::new(alloc);
     let mut rest = tokens;
@@ -310,7 +310,7 @@ fn field_modifiers(
 
 #[tactic(auto, unfolding(crate::specs::Members::field_at))]
 pub(crate) fn field(alloc: Global, tokens: &[Token]) -> Result<(Field, &[Token]), Refusal>
-    ensures { Gives (λ x. (x.0, kinds x.1.now)) result (spec.field_at (kinds tokens.now)) }
+    ensures { ReturnsReading (λ x. (x.0, kinds x.1.now)) result (spec.field_at (kinds tokens.now)) }
 {
     let (modifiers, rest) = field_modifiers(alloc, tokens)?;
     let (type_name, rest) = name(alloc, rest)?;
@@ -355,7 +355,7 @@ pub(crate) fn type_of(word: Reserved) -> Option<TypeName>
 
 #[tactic(auto, unfolding(crate::specs::Members::type_at, crate::specs::Members::type_ahead, crate::specs::Members::first_is))]
 pub(crate) fn type_name(alloc: Global, tokens: &[Token]) -> Result<(TypeName, &[Token]), Refusal>
-    ensures { Gives (λ x. (x.0, kinds x.1.now)) result (spec.type_at (kinds tokens.now)) }
+    ensures { ReturnsReading (λ x. (x.0, kinds x.1.now)) result (spec.type_at (kinds tokens.now)) }
 {
     match tokens {
         [
@@ -387,7 +387,7 @@ pub(crate) fn result_type(
     alloc: Global,
     tokens: &[Token],
 ) -> Result<(ResultType, &[Token]), Refusal>
-    ensures { Gives (λ x. (x.0, kinds x.1.now)) result (spec.result_at (kinds tokens.now)) }
+    ensures { ReturnsReading (λ x. (x.0, kinds x.1.now)) result (spec.result_at (kinds tokens.now)) }
 {
     if begins(tokens, Wanted::Reserved(Reserved::Void)) {
         let rest = after(tokens, &[Wanted::Reserved(Reserved::Void)])?;
@@ -399,7 +399,7 @@ pub(crate) fn result_type(
 
 #[tactic(auto, unfolding(crate::specs::Members::param_at))]
 fn param(alloc: Global, tokens: &[Token]) -> Result<(Param, &[Token]), Refusal>
-    ensures { Gives (λ x. (x.0, kinds x.1.now)) result (spec.param_at (kinds tokens.now)) }
+    ensures { ReturnsReading (λ x. (x.0, kinds x.1.now)) result (spec.param_at (kinds tokens.now)) }
 {
     let (is_collection, rest) = optional(
         tokens,
@@ -426,7 +426,7 @@ fn param(alloc: Global, tokens: &[Token]) -> Result<(Param, &[Token]), Refusal>
 
 #[tactic(auto, unfolding(crate::specs::Members::other_param_at))]
 fn other_param(alloc: Global, tokens: &[Token]) -> Result<(Param, &[Token]), Refusal>
-    ensures { Gives (λ x. (x.0, kinds x.1.now)) result (spec.other_param_at (kinds tokens.now)) }
+    ensures { ReturnsReading (λ x. (x.0, kinds x.1.now)) result (spec.other_param_at (kinds tokens.now)) }
 {
     let rest = after(tokens, &[Wanted::Symbol(Symbol::Comma)])?;
     param(alloc, rest)
@@ -434,7 +434,7 @@ fn other_param(alloc: Global, tokens: &[Token]) -> Result<(Param, &[Token]), Ref
 
 /// The parameters behind the first. Each takes a token, so there are no more turns than tokens.
 fn other_params(alloc: Global, tokens: &[Token]) -> Result<(Items<Param>, &[Token]), Refusal>
-    ensures { Gives (λ x. (x.0, kinds x.1.now)) result (spec.other_params_at (kinds tokens.now)) }
+    ensures { ReturnsReading (λ x. (x.0, kinds x.1.now)) result (spec.other_params_at (kinds tokens.now)) }
 {
     let mut params = Items::new(alloc);
     let mut rest = tokens;
@@ -451,7 +451,7 @@ fn other_params(alloc: Global, tokens: &[Token]) -> Result<(Items<Param>, &[Toke
 
 #[tactic(auto, unfolding(crate::specs::Members::params_at))]
 pub(crate) fn params(alloc: Global, tokens: &[Token]) -> Result<(Items<Param>, &[Token]), Refusal>
-    ensures { Gives (λ x. (x.0, kinds x.1.now)) result (spec.params_at (kinds tokens.now)) }
+    ensures { ReturnsReading (λ x. (x.0, kinds x.1.now)) result (spec.params_at (kinds tokens.now)) }
 {
     if begins(tokens, Wanted::Symbol(Symbol::CloseParen)) {
         return Ok((Items::new(alloc), tokens));

@@ -24,8 +24,8 @@ pub(crate) enum Opening {
     Other,
 }
 
-fn opening_word(word: Reserved) -> Opening
-    ensures { result ≡ spec.opening_word word }
+fn opening_reserved(word: Reserved) -> Opening
+    ensures { result ≡ spec.opening_reserved word }
 {
     match word {
         Reserved::True => Opening::Truth(true),
@@ -65,7 +65,7 @@ pub(crate) fn opening_of(tokens: &[Token]) -> Opening
                 decimal: *decimal,
                 long: *long,
             },
-            Kind::Reserved(word) => opening_word(*word),
+            Kind::Reserved(word) => opening_reserved(*word),
             Kind::Symbol(symbol) => opening_symbol(*symbol),
         },
     }

@@ -3,7 +3,7 @@
 ghost use Rattle.std.specs.Prelude.{◌≡◌, ◌+◌, IfOk};
 ghost use Rattle.java_tree.specs.declared.tree.Expr.TheVariants as e;
 ghost use Rattle.java_tree.specs.Heights.{expr_height};
-ghost use Rattle.java_parser.specs.Words.{Gives, kinds};
+ghost use Rattle.java_parser.specs.Words.{ReturnsReading, kinds};
 ghost use Rattle.java_parser.specs.Expressions as spec;
 ghost use Rattle.java_parser.specs.Deeper.{Reads, Finds, Measures};
 
@@ -178,7 +178,7 @@ pub(crate) fn expr(
     levels: usize,
     tokens: &[Token],
 ) -> Result<(Expr, &[Token]), Refusal>
-    ensures { Gives (λ x. (x.0, kinds x.1.now)) result (spec.expr_at levels (kinds tokens.now)) }
+    ensures { ReturnsReading (λ x. (x.0, kinds x.1.now)) result (spec.expr_at levels (kinds tokens.now)) }
 {
     let (expr, _, rest) = read(alloc, levels, ALL_ROWS, tokens)?;
     Ok((expr, rest))
@@ -190,7 +190,7 @@ pub(crate) fn value(
     levels: usize,
     tokens: &[Token],
 ) -> Result<(Value, &[Token]), Refusal>
-    ensures { Gives (λ x. (x.0, kinds x.1.now)) result (spec.value_at levels (kinds tokens.now)) }
+    ensures { ReturnsReading (λ x. (x.0, kinds x.1.now)) result (spec.value_at levels (kinds tokens.now)) }
 {
     let rules = Rules {
         alloc,
@@ -208,7 +208,7 @@ pub(crate) fn call(
     levels: usize,
     tokens: &[Token],
 ) -> Result<(CallForm, &[Token]), Refusal>
-    ensures { Gives (λ x. (x.0, kinds x.1.now)) result (spec.call_at levels (kinds tokens.now)) }
+    ensures { ReturnsReading (λ x. (x.0, kinds x.1.now)) result (spec.call_at levels (kinds tokens.now)) }
 {
     let rules = Rules {
         alloc,

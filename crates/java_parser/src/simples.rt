@@ -2,7 +2,7 @@
 
 ghost use Rattle.std.specs.Prelude.{◌≡◌};
 ghost use Rattle.java_tree.specs.Tokens.{assign_symbol};
-ghost use Rattle.java_parser.specs.Words.{Gives, kinds};
+ghost use Rattle.java_parser.specs.Words.{ReturnsReading, kinds};
 ghost use Rattle.java_parser.specs.Simples as spec;
 
 use crate::error::Refusal;
@@ -18,7 +18,7 @@ use std::alloc::Global;
 
 /// How many levels are left inside.
 fn inside(levels: usize, tokens: &[Token]) -> Result<usize, Refusal>
-    ensures { Gives (λ n. n) result (spec.inside levels (kinds tokens.now)) }
+    ensures { ReturnsReading (λ n. n) result (spec.inside levels (kinds tokens.now)) }
 {
     if levels == 0 {
         return Err(Refusal::TooDeep { left: tokens.len() });
@@ -42,27 +42,26 @@ pub(crate) fn begins_name(tokens: &[Token]) -> bool
     )
 }
 
+/// Whether `@Partial` stands ahead.
+fn is_partial_ahead(tokens: &[Token]) -> bool
+    ensures { result ≡ spec.is_partial_ahead (kinds tokens.now) }
+{
+    begins(tokens, Wanted::Symbol(Symbol::At)) && is_named(tokens, b"Partial")
+}
+
 /// Whether the tokens go on with a local, and not with a statement.
 #[tactic(auto, unfolding(crate::specs::Simples::local_ahead))]
 pub(crate) fn local_ahead(tokens: &[Token]) -> bool
     ensures { result ≡ spec.local_ahead (kinds tokens.now) }
 {
     match tokens {
-        [
-            Token {
-                kind: Kind::Reserved(word),
-                ..
-            },
-            ..
-        ] => type_of(*word).is_some(),
-        [
-            Token {
-                kind: Kind::Identifier(_),
-                ..
-            },
-            rest @ ..,
-        ] => begins_name(rest),
-        _ => begins(tokens, Wanted::Symbol(Symbol::At)) && is_named(tokens, b"Partial"),
+        [] => false,
+        [first, rest @ ..] => match &first.kind {
+            Kind::Reserved(word) => type_of(*word).is_some(),
+            Kind::Identifier(_) => begins_name(rest),
+            Kind::Number { .. } => false,
+            Kind::Symbol(_) => is_partial_ahead(tokens),
+        },
     }
 }
 
@@ -72,7 +71,7 @@ fn initialiser(
     levels: usize,
     tokens: &[Token],
 ) -> Result<(Option<Value>, &[Token]), Refusal>
-    ensures { Gives (λ x. (x.0, kinds x.1.now)) result (spec.initialiser_at levels (kinds tokens.now)) }
+    ensures { ReturnsReading (λ x. (x.0, kinds x.1.now)) result (spec.initialiser_at levels (kinds tokens.now)) }
 {
     if !begins(tokens, Wanted::Symbol(Symbol::Assign)) {
         return Ok((None, tokens));
@@ -88,7 +87,7 @@ pub(crate) fn local(
     levels: usize,
     tokens: &[Token],
 ) -> Result<(Local, &[Token]), Refusal>
-    ensures { Gives (λ x. (x.0, kinds x.1.now)) result (spec.local_at levels (kinds tokens.now)) }
+    ensures { ReturnsReading (λ x. (x.0, kinds x.1.now)) result (spec.local_at levels (kinds tokens.now)) }
 {
     let levels = inside(levels, tokens)?;
     let (is_partial, rest) = optional(
@@ -136,7 +135,7 @@ fn named_before(
     symbol: Symbol,
     tokens: &[Token],
 ) -> Result<(Name, &[Token]), Refusal>
-    ensures { Gives (λ x. (x.0, kinds x.1.now)) result (spec.named_before symbol (kinds tokens.now)) }
+    ensures { ReturnsReading (λ x. (x.0, kinds x.1.now)) result (spec.named_before symbol (kinds tokens.now)) }
 {
     let (name, rest) = name(alloc, tokens)?;
     let rest = after(rest, &[Wanted::Symbol(symbol)])?;
@@ -150,7 +149,7 @@ fn named_behind(
     symbol: Symbol,
     tokens: &[Token],
 ) -> Result<(Name, &[Token]), Refusal>
-    ensures { Gives (λ x. (x.0, kinds x.1.now)) result (spec.named_behind symbol (kinds tokens.now)) }
+    ensures { ReturnsReading (λ x. (x.0, kinds x.1.now)) result (spec.named_behind symbol (kinds tokens.now)) }
 {
     let rest = after(tokens, &[Wanted::Symbol(symbol)])?;
     name(alloc, rest)
@@ -163,7 +162,7 @@ fn simple_of(
     levels: usize,
     tokens: &[Token],
 ) -> Result<(Simple, &[Token]), Refusal>
-    ensures { Gives (λ x. (x.0, kinds x.1.now)) result (spec.simple_of form levels (kinds tokens.now)) }
+    ensures { ReturnsReading (λ x. (x.0, kinds x.1.now)) result (spec.simple_of form levels (kinds tokens.now)) }
 {
     match form {
         SimpleForm::Assign(op) => {
@@ -206,14 +205,14 @@ pub(crate) fn simple_in(
     levels: usize,
     tokens: &[Token],
 ) -> Result<(Simple, &[Token]), Refusal>
-    ensures { Gives (λ x. (x.0, kinds x.1.now)) result (spec.simple_in levels (kinds tokens.now)) }
+    ensures { ReturnsReading (λ x. (x.0, kinds x.1.now)) result (spec.simple_in levels (kinds tokens.now)) }
 {
     simple_of(alloc, simple_form(tokens), levels, tokens)
 }
 
 #[tactic(auto, unfolding(crate::specs::Simples::simple_at))]
 fn simple(alloc: Global, levels: usize, tokens: &[Token]) -> Result<(Simple, &[Token]), Refusal>
-    ensures { Gives (λ x. (x.0, kinds x.1.now)) result (spec.simple_at levels (kinds tokens.now)) }
+    ensures { ReturnsReading (λ x. (x.0, kinds x.1.now)) result (spec.simple_at levels (kinds tokens.now)) }
 {
     let levels = inside(levels, tokens)?;
     simple_in(alloc, levels, tokens)
@@ -225,7 +224,7 @@ fn other_simple(
     levels: usize,
     tokens: &[Token],
 ) -> Result<(Simple, &[Token]), Refusal>
-    ensures { Gives (λ x. (x.0, kinds x.1.now)) result (spec.other_simple_at levels (kinds tokens.now)) }
+    ensures { ReturnsReading (λ x. (x.0, kinds x.1.now)) result (spec.other_simple_at levels (kinds tokens.now)) }
 {
     let rest = after(tokens, &[Wanted::Symbol(Symbol::Comma)])?;
     simple(alloc, levels, rest)
@@ -237,7 +236,7 @@ fn other_simples(
     levels: usize,
     tokens: &[Token],
 ) -> Result<(Items<Simple>, &[Token]), Refusal>
-    ensures { Gives (λ x. (x.0, kinds x.1.now)) result (spec.other_simples_at levels (kinds tokens.now)) }
+    ensures { ReturnsReading (λ x. (x.0, kinds x.1.now)) result (spec.other_simples_at levels (kinds tokens.now)) }
 {
     let mut simples = Items::new(alloc);
     let mut rest = tokens;
@@ -258,7 +257,7 @@ pub(crate) fn simples(
     levels: usize,
     tokens: &[Token],
 ) -> Result<(Items<Simple>, &[Token]), Refusal>
-    ensures { Gives (λ x. (x.0, kinds x.1.now)) result (spec.simples_at levels (kinds tokens.now)) }
+    ensures { ReturnsReading (λ x. (x.0, kinds x.1.now)) result (spec.simples_at levels (kinds tokens.now)) }
 {
     let (first, rest) = simple(alloc, levels, tokens)?;
     let (others, rest) = other_simples(alloc, levels, rest)?;

@@ -2,7 +2,7 @@
 //! a parameter, so that each is proved by itself.
 
 ghost use Rattle.std.specs.Prelude.{◌≡◌};
-ghost use Rattle.java_parser.specs.Words.{Gives, kinds};
+ghost use Rattle.java_parser.specs.Words.{ReturnsReading, kinds};
 ghost use Rattle.java_parser.specs.Statements as spec;
 ghost use Rattle.java_parser.specs.Inner.{ReadsStatements};
 
@@ -23,7 +23,7 @@ type Branches = (Boxed<Stmt>, Option<Boxed<Stmt>>);
 /// A condition in parentheses.
 #[tactic(auto, unfolding(crate::specs::Statements::test_at))]
 fn test(alloc: Global, levels: usize, tokens: &[Token]) -> Result<(Boxed<Expr>, &[Token]), Refusal>
-    ensures { Gives (λ x. (x.0, kinds x.1.now)) result (spec.test_at levels (kinds tokens.now)) }
+    ensures { ReturnsReading (λ x. (x.0, kinds x.1.now)) result (spec.test_at levels (kinds tokens.now)) }
 {
     let rest = after(tokens, &[Wanted::Symbol(Symbol::OpenParen)])?;
     let (test, rest) = expr(alloc, levels, rest)?;
@@ -35,7 +35,7 @@ fn test(alloc: Global, levels: usize, tokens: &[Token]) -> Result<(Boxed<Expr>, 
 /// What follows this word and a semicolon.
 #[tactic(auto, unfolding(crate::specs::Statements::after_jump))]
 fn after_jump(tokens: &[Token], word: Reserved) -> Result<&[Token], Refusal>
-    ensures { Gives (λ rest. kinds rest.now) result (spec.after_jump word (kinds tokens.now)) }
+    ensures { ReturnsReading (λ rest. kinds rest.now) result (spec.after_jump word (kinds tokens.now)) }
 {
     after(
         tokens,
@@ -49,7 +49,7 @@ fn returned(
     levels: usize,
     tokens: &[Token],
 ) -> Result<(Option<Boxed<Value>>, &[Token]), Refusal>
-    ensures { Gives (λ x. (x.0, kinds x.1.now)) result (spec.returned_at levels (kinds tokens.now)) }
+    ensures { ReturnsReading (λ x. (x.0, kinds x.1.now)) result (spec.returned_at levels (kinds tokens.now)) }
 {
     if begins(tokens, Wanted::Symbol(Symbol::Semicolon)) {
         return Ok((None, tokens));
@@ -64,7 +64,7 @@ fn return_statement(
     levels: usize,
     tokens: &[Token],
 ) -> Result<(Stmt, &[Token]), Refusal>
-    ensures { Gives (λ x. (x.0, kinds x.1.now)) result (spec.return_at levels (kinds tokens.now)) }
+    ensures { ReturnsReading (λ x. (x.0, kinds x.1.now)) result (spec.return_at levels (kinds tokens.now)) }
 {
     let rest = after(tokens, &[Wanted::Reserved(Reserved::Return)])?;
     let (value, rest) = returned(alloc, levels, rest)?;
@@ -78,7 +78,7 @@ fn simple_statement(
     levels: usize,
     tokens: &[Token],
 ) -> Result<(Stmt, &[Token]), Refusal>
-    ensures { Gives (λ x. (x.0, kinds x.1.now)) result (spec.simple_statement_at levels (kinds tokens.now)) }
+    ensures { ReturnsReading (λ x. (x.0, kinds x.1.now)) result (spec.simple_statement_at levels (kinds tokens.now)) }
 {
     let (simple, rest) = simple_in(alloc, levels, tokens)?;
     let rest = after(rest, &[Wanted::Symbol(Symbol::Semicolon)])?;
@@ -108,7 +108,7 @@ impl<F: Fn(Global, usize, &[Token]) -> Result<(Stmt, &[Token]), Refusal>> Statem
     /// A statement inside.
     fn inner<'t>(&self, tokens: &'t [Token]) -> Result<(Stmt, &'t [Token]), Refusal>
         requires { ReadsStatements self.now.levels (F.pre self.now.statement) (F.post self.now.statement) }
-        ensures { Gives (λ x. (x.0, kinds x.1.now)) result (spec.statement_at self.now.levels (kinds tokens.now)) }
+        ensures { ReturnsReading (λ x. (x.0, kinds x.1.now)) result (spec.statement_at self.now.levels (kinds tokens.now)) }
     {
         (self.statement)(self.alloc, self.levels, tokens)
     }
@@ -116,7 +116,7 @@ impl<F: Fn(Global, usize, &[Token]) -> Result<(Stmt, &[Token]), Refusal>> Statem
     /// A statement inside, in a box.
     fn boxed<'t>(&self, tokens: &'t [Token]) -> Result<(Boxed<Stmt>, &'t [Token]), Refusal>
         requires { ReadsStatements self.now.levels (F.pre self.now.statement) (F.post self.now.statement) }
-        ensures { Gives (λ x. (x.0, kinds x.1.now)) result (spec.statement_at self.now.levels (kinds tokens.now)) }
+        ensures { ReturnsReading (λ x. (x.0, kinds x.1.now)) result (spec.statement_at self.now.levels (kinds tokens.now)) }
     {
         let (body, rest) = self.inner(tokens)?;
         Ok((Boxed::new(self.alloc, body)?, rest))
@@ -125,7 +125,7 @@ impl<F: Fn(Global, usize, &[Token]) -> Result<(Stmt, &[Token]), Refusal>> Statem
     #[tactic(auto, unfolding(crate::specs::Statements::item_at))]
     fn item<'t>(&self, tokens: &'t [Token]) -> Result<(BlockItem, &'t [Token]), Refusal>
         requires { ReadsStatements self.now.levels (F.pre self.now.statement) (F.post self.now.statement) }
-        ensures { Gives (λ x. (x.0, kinds x.1.now)) result (spec.item_at self.now.levels (spec.statement_at self.now.levels) (kinds tokens.now)) }
+        ensures { ReturnsReading (λ x. (x.0, kinds x.1.now)) result (spec.item_at self.now.levels (spec.statement_at self.now.levels) (kinds tokens.now)) }
     {
         if local_ahead(tokens) {
             let (local, rest) = local(self.alloc, self.levels, tokens)?;
@@ -140,7 +140,7 @@ impl<F: Fn(Global, usize, &[Token]) -> Result<(Stmt, &[Token]), Refusal>> Statem
     /// more turns than tokens.
     fn items<'t>(&self, tokens: &'t [Token]) -> Result<(Block, &'t [Token]), Refusal>
         requires { ReadsStatements self.now.levels (F.pre self.now.statement) (F.post self.now.statement) }
-        ensures { Gives (λ x. (x.0, kinds x.1.now)) result (spec.items_at self.now.levels (spec.statement_at self.now.levels) (kinds tokens.now)) }
+        ensures { ReturnsReading (λ x. (x.0, kinds x.1.now)) result (spec.items_at self.now.levels (spec.statement_at self.now.levels) (kinds tokens.now)) }
     {
         let mut items = Items::new(self.alloc);
         let mut rest = tokens;
@@ -158,7 +158,7 @@ impl<F: Fn(Global, usize, &[Token]) -> Result<(Stmt, &[Token]), Refusal>> Statem
     #[tactic(auto, unfolding(crate::specs::Statements::block_at))]
     fn block<'t>(&self, tokens: &'t [Token]) -> Result<(Block, &'t [Token]), Refusal>
         requires { ReadsStatements self.now.levels (F.pre self.now.statement) (F.post self.now.statement) }
-        ensures { Gives (λ x. (x.0, kinds x.1.now)) result (spec.block_at self.now.levels (spec.statement_at self.now.levels) (kinds tokens.now)) }
+        ensures { ReturnsReading (λ x. (x.0, kinds x.1.now)) result (spec.block_at self.now.levels (spec.statement_at self.now.levels) (kinds tokens.now)) }
     {
         let rest = after(tokens, &[Wanted::Symbol(Symbol::OpenBrace)])?;
         let (items, rest) = self.items(rest)?;
@@ -174,7 +174,7 @@ impl<F: Fn(Global, usize, &[Token]) -> Result<(Stmt, &[Token]), Refusal>> Statem
         tokens: &'t [Token],
     ) -> Result<(Option<Boxed<Stmt>>, &'t [Token]), Refusal>
         requires { ReadsStatements self.now.levels (F.pre self.now.statement) (F.post self.now.statement) }
-        ensures { Gives (λ x. (x.0, kinds x.1.now)) result (spec.otherwise_at (spec.statement_at self.now.levels) (kinds tokens.now)) }
+        ensures { ReturnsReading (λ x. (x.0, kinds x.1.now)) result (spec.otherwise_at (spec.statement_at self.now.levels) (kinds tokens.now)) }
     {
         if !begins(tokens, Wanted::Reserved(Reserved::Else)) {
             return Ok((None, tokens));
@@ -188,7 +188,7 @@ impl<F: Fn(Global, usize, &[Token]) -> Result<(Stmt, &[Token]), Refusal>> Statem
     #[tactic(auto, unfolding(crate::specs::Statements::branches_at))]
     fn branches<'t>(&self, tokens: &'t [Token]) -> Result<(Branches, &'t [Token]), Refusal>
         requires { ReadsStatements self.now.levels (F.pre self.now.statement) (F.post self.now.statement) }
-        ensures { Gives (λ x. (x.0, kinds x.1.now)) result (spec.branches_at (spec.statement_at self.now.levels) (kinds tokens.now)) }
+        ensures { ReturnsReading (λ x. (x.0, kinds x.1.now)) result (spec.branches_at (spec.statement_at self.now.levels) (kinds tokens.now)) }
     {
         let (first, rest) = self.boxed(tokens)?;
         let (second, rest) = self.otherwise(rest)?;
@@ -198,7 +198,7 @@ impl<F: Fn(Global, usize, &[Token]) -> Result<(Stmt, &[Token]), Refusal>> Statem
     #[tactic(auto, unfolding(crate::specs::Statements::if_at))]
     fn branch<'t>(&self, tokens: &'t [Token]) -> Result<(Stmt, &'t [Token]), Refusal>
         requires { ReadsStatements self.now.levels (F.pre self.now.statement) (F.post self.now.statement) }
-        ensures { Gives (λ x. (x.0, kinds x.1.now)) result (spec.if_at self.now.levels (spec.statement_at self.now.levels) (kinds tokens.now)) }
+        ensures { ReturnsReading (λ x. (x.0, kinds x.1.now)) result (spec.if_at self.now.levels (spec.statement_at self.now.levels) (kinds tokens.now)) }
     {
         let rest = after(tokens, &[Wanted::Reserved(Reserved::If)])?;
         let (test, rest) = test(self.alloc, self.levels, rest)?;
@@ -209,7 +209,7 @@ impl<F: Fn(Global, usize, &[Token]) -> Result<(Stmt, &[Token]), Refusal>> Statem
     #[tactic(auto, unfolding(crate::specs::Statements::while_at))]
     fn while_loop<'t>(&self, tokens: &'t [Token]) -> Result<(Stmt, &'t [Token]), Refusal>
         requires { ReadsStatements self.now.levels (F.pre self.now.statement) (F.post self.now.statement) }
-        ensures { Gives (λ x. (x.0, kinds x.1.now)) result (spec.while_at self.now.levels (spec.statement_at self.now.levels) (kinds tokens.now)) }
+        ensures { ReturnsReading (λ x. (x.0, kinds x.1.now)) result (spec.while_at self.now.levels (spec.statement_at self.now.levels) (kinds tokens.now)) }
     {
         let rest = after(tokens, &[Wanted::Reserved(Reserved::While)])?;
         let (test, rest) = test(self.alloc, self.levels, rest)?;
@@ -220,7 +220,7 @@ impl<F: Fn(Global, usize, &[Token]) -> Result<(Stmt, &[Token]), Refusal>> Statem
     #[tactic(auto, unfolding(crate::specs::Statements::for_at))]
     fn for_loop<'t>(&self, tokens: &'t [Token]) -> Result<(Stmt, &'t [Token]), Refusal>
         requires { ReadsStatements self.now.levels (F.pre self.now.statement) (F.post self.now.statement) }
-        ensures { Gives (λ x. (x.0, kinds x.1.now)) result (spec.for_at self.now.levels (spec.statement_at self.now.levels) (kinds tokens.now)) }
+        ensures { ReturnsReading (λ x. (x.0, kinds x.1.now)) result (spec.for_at self.now.levels (spec.statement_at self.now.levels) (kinds tokens.now)) }
     {
         let (header, rest) = for_header(self.alloc, self.levels, tokens)?;
         let (body, rest) = self.boxed(rest)?;
@@ -235,7 +235,7 @@ impl<F: Fn(Global, usize, &[Token]) -> Result<(Stmt, &[Token]), Refusal>> Statem
         tokens: &'t [Token],
     ) -> Result<(Stmt, &'t [Token]), Refusal>
         requires { ReadsStatements self.now.levels (F.pre self.now.statement) (F.post self.now.statement) }
-        ensures { Gives (λ x. (x.0, kinds x.1.now)) result (spec.statement_of form self.now.levels (spec.statement_at self.now.levels) (kinds tokens.now)) }
+        ensures { ReturnsReading (λ x. (x.0, kinds x.1.now)) result (spec.statement_of form self.now.levels (spec.statement_at self.now.levels) (kinds tokens.now)) }
     {
         match form {
             StatementForm::Block => {
@@ -265,7 +265,7 @@ impl<F: Fn(Global, usize, &[Token]) -> Result<(Stmt, &[Token]), Refusal>> Statem
 
 /// A statement, of at most this many levels.
 fn statement(alloc: Global, levels: usize, tokens: &[Token]) -> Result<(Stmt, &[Token]), Refusal>
-    ensures { Gives (λ x. (x.0, kinds x.1.now)) result (spec.statement_at levels (kinds tokens.now)) }
+    ensures { ReturnsReading (λ x. (x.0, kinds x.1.now)) result (spec.statement_at levels (kinds tokens.now)) }
 {
     if levels == 0 {
         return Err(Refusal::TooDeep { left: tokens.len() });
@@ -284,7 +284,7 @@ pub(crate) fn block(
     levels: usize,
     tokens: &[Token],
 ) -> Result<(Block, &[Token]), Refusal>
-    ensures { Gives (λ x. (x.0, kinds x.1.now)) result (spec.block_at levels (spec.statement_at levels) (kinds tokens.now)) }
+    ensures { ReturnsReading (λ x. (x.0, kinds x.1.now)) result (spec.block_at levels (spec.statement_at levels) (kinds tokens.now)) }
 {
     Statements {
         alloc,

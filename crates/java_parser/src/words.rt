@@ -1,7 +1,7 @@
 //! Words that a rule wants, and names.
 
 ghost use Rattle.std.specs.Prelude.{◌≡◌, map};
-ghost use Rattle.java_parser.specs.Words.{Gives, kinds, kind_of, same_word, begins, after_word, after, name_at};
+ghost use Rattle.java_parser.specs.Words.{ReturnsReading, kinds, kind_of, same_token, begins, after_token, after, name_at};
 
 use crate::error::Refusal;
 use java_tree::{Kind, Reserved, Symbol, Token};
@@ -18,9 +18,9 @@ pub(crate) enum Wanted<'a> {
 }
 
 /// Whether a token is this word.
-#[tactic(auto, unfolding(crate::specs::Words::same_word))]
+#[tactic(auto, unfolding(crate::specs::Words::same_token))]
 pub(crate) fn is(kind: &Kind, wanted: Wanted<'_>) -> bool
-    ensures { result ≡ same_word kind.now (kind_of wanted.entry) }
+    ensures { result ≡ same_token kind.now (kind_of wanted.entry) }
 {
     match wanted {
         Wanted::Reserved(word) => matches!(kind, Kind::Reserved(found) if *found == word),
@@ -40,9 +40,9 @@ pub(crate) fn begins(tokens: &[Token], wanted: Wanted<'_>) -> bool
     }
 }
 
-#[tactic(auto, unfolding(crate::specs::Words::after_word))]
-fn after_word<'t>(tokens: &'t [Token], wanted: Wanted<'_>) -> Result<&'t [Token], Refusal>
-    ensures { Gives (λ rest. kinds rest.now) result (after_word (kind_of wanted.entry) (kinds tokens.now)) }
+#[tactic(auto, unfolding(crate::specs::Words::after_token))]
+fn after_token<'t>(tokens: &'t [Token], wanted: Wanted<'_>) -> Result<&'t [Token], Refusal>
+    ensures { ReturnsReading (λ rest. kinds rest.now) result (after_token (kind_of wanted.entry) (kinds tokens.now)) }
 {
     match tokens {
         [first, rest @ ..] if is(&first.kind, wanted) => Ok(rest),
@@ -52,11 +52,11 @@ fn after_word<'t>(tokens: &'t [Token], wanted: Wanted<'_>) -> Result<&'t [Token]
 
 /// The tokens after these words.
 pub(crate) fn after<'t>(tokens: &'t [Token], words: &[Wanted<'_>]) -> Result<&'t [Token], Refusal>
-    ensures { Gives (λ rest. kinds rest.now) result (after (map kind_of words.now) (kinds tokens.now)) }
+    ensures { ReturnsReading (λ rest. kinds rest.now) result (after (map kind_of words.now) (kinds tokens.now)) }
 {
     let mut rest = tokens;
     for word in words {
-        rest = after_word(rest, *word)?;
+        rest = after_token(rest, *word)?;
     }
     Ok(rest)
 }
@@ -64,7 +64,7 @@ pub(crate) fn after<'t>(tokens: &'t [Token], words: &[Wanted<'_>]) -> Result<&'t
 /// The name that the tokens begin with.
 #[tactic(auto, unfolding(crate::specs::Words::name_at))]
 pub(crate) fn name(alloc: Global, tokens: &[Token]) -> Result<(Name, &[Token]), Refusal>
-    ensures { Gives (λ x. (x.0, kinds x.1.now)) result (name_at (kinds tokens.now)) }
+    ensures { ReturnsReading (λ x. (x.0, kinds x.1.now)) result (name_at (kinds tokens.now)) }
 {
     match tokens {
         [
