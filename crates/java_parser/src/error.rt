@@ -10,8 +10,8 @@ use thiserror::Error;
 /// Why tokens gave no tree.
 #[derive(Debug, Drop, Error)]
 pub enum ParseError {
-    /// No class of the grammar has these tokens. The place is the first of a text, whichever token is
-    /// wrong.
+    /// No class of the grammar that nests at most 200 levels deep has these tokens. The place is the
+    /// first of a text, whichever token is wrong.
     #[error("line {}, column {}: no class has these tokens", .place.line, .place.column)]
     NoClass { place: Place },
     /// An allocation failed.
