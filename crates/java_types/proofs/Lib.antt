@@ -1,3 +1,4 @@
+pub mod Earliest
 pub mod Firsts
 pub mod Lists
 pub mod Lookups

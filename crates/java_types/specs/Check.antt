@@ -1,5 +1,5 @@
 -- The findings of a class, which of them comes first, and its types.
-use Rattle.std.specs.Prelude.{◌≡◌, ℕ, Bool, nat_eq, nat_lt, List, [], ◌∷◌, length, map, slice_get, unwrap_or, fold, Option, Some, None, if◌then◌else◌}
+use Rattle.std.specs.Prelude.{◌≡◌, ℕ, Bool, false, nat_eq, nat_lt, List, [], length, map, slice_get, unwrap_or, fold, All, Contains, Option, Some, None, if◌then◌else◌}
 use Rattle.java_tree.specs.declared.token.Place.{Place}
 use Rattle.java_tree.specs.declared.tree.Class.{Class}
 use Rattle.java_tree.specs.declared.types.Types.{Types}
@@ -34,6 +34,11 @@ earlier (Some first) other = if is_before other first then Some other else Some 
 abbrev pub first_of : List Refused → Option Refused
 first_of = fold earlier None
 
+-- one of them, before which none of them comes
+pub record IsLeast (all : List Refused) (f : Refused) : Type 0 where
+  pub is_one : Contains all f
+  pub is_first : All (λ g. is_before g f ≡ false) all
+
 -- what is declared in the class
 abbrev pub env_of : Class → Env
 env_of c = record { limit = length c.places; class_name = c.name; fields = fields_of c.members; methods = methods_of c.members }
@@ -53,7 +58,7 @@ findings_of c = map (refused_at c.places) (whole c).findings
 abbrev pub types_of : Class → Types
 types_of c = record { exprs = (whole c).types; names = (whole c).names }
 
--- what a refusal says: the first of what is broken, if it is not want of memory
+-- what a refusal says: the least of what is broken, if it is not want of memory
 abbrev pub IsRefusal : Class → TypeError → Type 0
-IsRefusal c (errors.Rule rule place) = first_of (findings_of c) ≡ Some (record { place = place; rule = rule })
+IsRefusal c (errors.Rule rule place) = IsLeast (findings_of c) (record { place = place; rule = rule })
 IsRefusal c errors.Memory = Unit {0}

@@ -3,6 +3,7 @@ pub mod Check
 pub mod Declarations
 pub mod Expressions
 pub mod Fits
+pub mod Laws
 pub mod Members
 pub mod Methods
 pub mod Names

@@ -8,12 +8,16 @@ use crate::words::is_text;
 use java_tree::{ExprType, ValueType};
 use sdg_base::{BinOp, Num, UnOp};
 
+/// The type `int`.
 pub const INT: ExprType = ExprType::Value(ValueType::Int);
 
+/// The type `long`.
 pub const LONG: ExprType = ExprType::Value(ValueType::Long);
 
+/// The type `boolean`.
 pub const BOOLEAN: ExprType = ExprType::Value(ValueType::Boolean);
 
+/// The type of vectors.
 pub const VECTOR: ExprType = ExprType::Value(ValueType::Vector);
 
 pub fn is_known(found: ExprType) -> bool

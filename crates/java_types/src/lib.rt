@@ -7,6 +7,7 @@ mod declarations;
 mod error;
 mod expressions;
 mod fits;
+mod laws;
 mod members;
 mod methods;
 mod names;
@@ -17,3 +18,4 @@ mod words;
 
 pub use checking::check;
 pub use error::TypeError;
+pub use laws::first_is_least;

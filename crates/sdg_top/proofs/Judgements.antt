@@ -1,5 +1,5 @@
 -- What the tokens and the errors of a text say of the text.
-use Rattle.std.proofs.Common.{◌≡◌, ℕ, List, [], Option, Some, None, Result, Ok, Err, Contains, ◌⊎◌, inl, inr, codes, sym, subst, ◌∙◌, arith}
+use Rattle.std.proofs.Common.{◌≡◌, ℕ, List, [], Result, Ok, Err, Contains, ◌⊎◌, inl, inr, codes, sym, subst, ◌∙◌, arith}
 use Rattle.java_tree.specs.declared.token.Place.{Place}
 use Rattle.java_tree.specs.declared.token.Token.{Token}
 use Rattle.java_tree.specs.declared.tree.Class.{Class}
@@ -11,7 +11,7 @@ use Rattle.java_parser.specs.declared.error.ParseError.{ParseError}
 use Rattle.java_parser.specs.declared.error.ParseError.TheVariants as parse_error
 use Rattle.java_types.specs.declared.error.TypeError.TheVariants.{Rule}
 use Rattle.java_types.specs.declared.checking.Refused.{Refused}
-use Rattle.java_types.specs.Check.{findings_of, first_of, IsRefusal}
+use Rattle.java_types.specs.Check.{findings_of, IsRefusal}
 use Rattle.java_flow.specs.declared.finding.Finding.{Finding as FlowFinding}
 use Rattle.java_flow.specs.Findings.{findings}
 use Rattle.early_forms.specs.declared.straight.StraightClass.{StraightClass}
@@ -82,9 +82,7 @@ tokens_judged text tokens end (Refuses phase.Comment at) spelled only h = absurd
 -- an accepted class has nothing to be refused for
 no_finding : (tree : Class) (rule : ℕ) (at : Place) → findings_of tree ≡ [] → IsRefusal tree (Rule rule at) → ⊥
 no_finding tree rule at none refused =
-    let P : List Refused → Type 0 = λ all. first_of all ≡ Some (record { place = at; rule = rule }) in
-    let e : P [] = subst P none refused in
-    absurd cc
+    let P : List Refused → Type 0 = λ all. Contains all (record { place = at; rule = rule }) in let e : P [] = subst P none refused.is_one in omega (arith, e.1)
 
 no_flow : (tree : Class) (f : FlowFinding) → findings tree ≡ [] → Contains (findings tree) f → ⊥
 no_flow tree f none has = let P : List FlowFinding → Type 0 = λ all. Contains all f in let e : P [] = subst P none has in omega (arith, e.1)
