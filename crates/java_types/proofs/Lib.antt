@@ -1,6 +1,12 @@
+pub mod Counting
 pub mod Earliest
+pub mod ExpressionCounts
+pub mod ExpressionSteps
 pub mod Firsts
 pub mod Lists
 pub mod Lookups
+pub mod MemberCounts
 pub mod Reaching
+pub mod SimpleCounts
 pub mod Sizes
+pub mod StatementCounts

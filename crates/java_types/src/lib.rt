@@ -18,4 +18,4 @@ mod words;
 
 pub use checking::check;
 pub use error::TypeError;
-pub use laws::first_is_least;
+pub use laws::{first_is_least, passes_each_token};
