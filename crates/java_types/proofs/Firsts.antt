@@ -1,5 +1,5 @@
 -- Nothing is first only where there is nothing.
-use Rattle.std.proofs.Common.{◌≡◌, Bool, true, false, List, [], ◌∷◌, map, fold, Option, None, Some, is_some, if◌then◌else◌, refl, sym, ap, ◌∙◌}
+use Rattle.std.proofs.Common.{◌≡◌, Bool, true, false, List, [], ◌∷◌, fold, Option, None, Some, is_some, if◌then◌else◌, refl, ap}
 use Rattle.java_tree.specs.declared.types.Types.{Types}
 use Rattle.java_types.specs.declared.checking.Refused.{Refused}
 use Rattle.java_types.specs.declared.walk.Walk.{Walk}

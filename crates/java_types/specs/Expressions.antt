@@ -1,5 +1,5 @@
 -- The rules on expressions, and their types.
-use Rattle.std.specs.Prelude.{ℕ, ◌+◌, Bool, true, false, not, ◌&&◌, ◌||◌, nat_eq, List, [], ◌∷◌, ◌++◌, length, map, fold, slice_get, Option, Some, None, unwrap_or, if◌then◌else◌}
+use Rattle.std.specs.Prelude.{ℕ, ◌+◌, Bool, true, false, not, ◌&&◌, ◌||◌, nat_eq, List, [], ◌∷◌, ◌++◌, length, fold, slice_get, Option, Some, None, unwrap_or, if◌then◌else◌}
 use Rattle.sdg_base.specs.declared.operator.BinOp.{BinOp}
 use Rattle.sdg_base.specs.declared.operator.UnOp.{UnOp}
 use Rattle.sdg_base.specs.declared.val.Num.{Num}
@@ -16,7 +16,6 @@ use Rattle.java_tree.specs.declared.types.Declaration.TheVariants as declaration
 use Rattle.java_types.specs.declared.fits.Sort.{Sort}
 use Rattle.java_types.specs.declared.fits.Sort.TheVariants as sort
 use Rattle.java_types.specs.declared.expressions.Operand.{Operand}
-use Rattle.java_types.specs.declared.methods.Params.{Params}
 use Rattle.java_types.specs.declared.methods.Params.TheVariants as params
 use Rattle.java_types.specs.declared.methods.Shape.{Shape}
 use Rattle.java_types.specs.declared.walk.Env.{Env}

@@ -1,5 +1,5 @@
 -- The rules on fields and methods.
-use Rattle.std.specs.Prelude.{ℕ, ◌+◌, Bool, true, false, not, ◌&&◌, ◌||◌, nat_le, List, [], ◌∷◌, length, fold, Option, Some, None, is_some, if◌then◌else◌}
+use Rattle.std.specs.Prelude.{ℕ, ◌+◌, false, not, ◌&&◌, ◌||◌, nat_le, List, [], length, fold, Option, Some, None, is_some}
 use Rattle.std.specs.Str.{bytes_eq}
 use Rattle.java_tree.specs.declared.tree.QualifiedName.{QualifiedName}
 use Rattle.java_tree.specs.declared.tree.Import.{Import}
@@ -13,16 +13,14 @@ use Rattle.java_tree.specs.declared.tree.Method.{Method}
 use Rattle.java_tree.specs.declared.tree.Param.{Param}
 use Rattle.java_tree.specs.declared.tree.ResultType.{ResultType}
 use Rattle.java_tree.specs.declared.tree.ResultType.TheVariants as result_types
-use Rattle.java_tree.specs.declared.tree.BlockItem.{BlockItem}
 use Rattle.java_tree.specs.declared.types.Declaration.TheVariants as declaration
 use Rattle.java_types.specs.declared.walk.Env.{Env}
 use Rattle.java_types.specs.declared.walk.Signature.{Signature}
 use Rattle.java_types.specs.declared.walk.Walk.{Walk}
 use Rattle.java_types.specs.declared.members.Seen.{Seen}
-use Rattle.java_types.specs.declared.statements.Around.{Around}
 use Rattle.java_types.specs.Names.{entry_of, with_entry}
 use Rattle.java_types.specs.Words.{state_class, is_reserved, is_type}
-use Rattle.java_types.specs.Walks.{past, past_if, noted, left, most_methods}
+use Rattle.java_types.specs.Walks.{past, past_if, noted, most_methods}
 use Rattle.java_types.specs.Expressions.{past_none}
 use Rattle.java_types.specs.Simples.{typed_name, declared}
 use Rattle.java_types.specs.Declarations.{param_type, result_type}

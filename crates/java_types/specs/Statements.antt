@@ -1,5 +1,5 @@
 -- The rules on statements.
-use Rattle.std.specs.Prelude.{ℕ, Bool, true, false, not, ◌&&◌, List, [], ◌∷◌, length, fold, Option, Some, None}
+use Rattle.std.specs.Prelude.{ℕ, Bool, true, false, not, ◌&&◌, List, length, fold, Option, Some, None}
 use Rattle.java_tree.specs.declared.tree.Expr.{Expr}
 use Rattle.java_tree.specs.declared.tree.Value.{Value, out-Value}
 use Rattle.java_tree.specs.declared.tree.ForInit.{ForInit}

@@ -1,5 +1,5 @@
 -- What is known while a class is read from its first token to its last, and what each step adds.
-use Rattle.std.specs.Prelude.{ℕ, ◌+◌, min, Bool, true, false, ◌||◌, nat_le, nat_lt, List, [], ◌∷◌, ◌++◌, length, take, slice_set, Option, Some, None, is_some, if◌then◌else◌}
+use Rattle.std.specs.Prelude.{ℕ, ◌+◌, min, Bool, true, false, ◌||◌, nat_le, nat_lt, List, [], ◌∷◌, ◌++◌, length, take, slice_set, Option, Some, None, if◌then◌else◌}
 use Rattle.java_tree.specs.declared.types.ExprType.{ExprType}
 use Rattle.java_tree.specs.declared.types.ExprType.TheVariants.{Unknown}
 use Rattle.java_types.specs.declared.calls.Call.{Call}

@@ -1,5 +1,5 @@
 -- The names that have a meaning of their own.
-use Rattle.std.specs.Prelude.{ℕ, Bool, true, false, ◌||◌, List, Option, Some, None, is_some, if◌then◌else◌, codes}
+use Rattle.std.specs.Prelude.{ℕ, Bool, true, ◌||◌, List, Option, Some, None, is_some, if◌then◌else◌, codes}
 use Rattle.std.specs.Str.{bytes_eq}
 use Rattle.sdg_base.specs.declared.store.ClassName.{ClassName}
 use Rattle.sdg_base.specs.declared.store.ClassName.TheVariants as class_name

@@ -1,4 +1,4 @@
-use Rattle.std.proofs.Common.{◌≡◌, ◌<◌, ℕ, length, nat_eq, get_or, false, arith, ◌/◌, ◌%◌}
+use Rattle.std.proofs.Common.{◌≡◌, length, nat_eq, arith}
 use Rattle.java_types.proofs.Reaching.{holds_from}
 use Rattle.java_types.proofs.calls.no_calls.Goals as goal
 

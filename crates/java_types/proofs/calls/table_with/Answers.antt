@@ -1,4 +1,4 @@
-use Rattle.std.proofs.Common.{◌≡◌, ◌<◌, ℕ, length, arith}
+use Rattle.std.proofs.Common.{◌≡◌, length, arith}
 use Rattle.java_types.proofs.Reaching.{holds_with}
 use Rattle.java_types.proofs.calls.table_with.Goals as goal
 

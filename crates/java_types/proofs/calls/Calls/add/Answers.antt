@@ -1,4 +1,4 @@
-use Rattle.std.proofs.Common.{◌≡◌, sym, subst, ◌∙◌, ap, ◌++◌, ◌∷◌, [], Option, Vec, Global, Bool, MatchOption}
+use Rattle.std.proofs.Common.{sym, subst, ◌∙◌, ap, Option, Vec, Global, Bool, MatchOption}
 use Rattle.std.proofs.lemmas.Result.{IfOk-at_ok}
 use Rattle.java_types.specs.Calls.{reaches, with_call, Holds}
 use Rattle.java_types.proofs.Reaching.{reaches_transitive, reaches-push}

@@ -1,4 +1,4 @@
-use Rattle.std.proofs.Common.{sym, ap, ◌∙◌}
+use Rattle.std.proofs.Common.{ap, ◌∙◌}
 use Rattle.java_types.specs.Names.{entry_of}
 use Rattle.java_types.proofs.Lookups.{entry_of-viewed}
 use Rattle.java_types.proofs.names.Names.get.Goals as goal
