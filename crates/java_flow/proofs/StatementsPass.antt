@@ -12,11 +12,11 @@ use Rattle.java_tree.specs.declared.tree.BlockItem.TheOpen.{BlockItem-F, Stmt-F}
 use Rattle.java_tree.specs.declared.tree.BlockItem.TheOpen as s
 use Rattle.java_tree.specs.declared.tree.BlockItem.TheFolds.{fold-roll-BlockItem, fold-roll-Stmt, ind-BlockItem, ind-Stmt}
 use Rattle.java_tree.specs.Tokens as tokens
-use Rattle.java_tree.specs.Tokens.{Kinds, in_parentheses, in_braces, item_tokens, header_tokens, expr_tokens, simple_tokens, local_tokens, value_tokens}
+use Rattle.java_tree.specs.Tokens.{Kinds, in_parentheses, in_braces, item_tokens, header_tokens, expr_tokens, simple_tokens, local_tokens, value_tokens, statement_tokens}
 use Rattle.java_flow.specs.Points.{Point, behind, begun}
 use Rattle.java_flow.specs.Statements as walks
 use Rattle.java_flow.specs.Statements.{Item, item_of, statement_walk, items_walk}
-use Rattle.java_flow.specs.Laws.{Passes, statement_tokens}
+use Rattle.java_flow.specs.Laws.{Passes}
 use Rattle.java_flow.proofs.Passing.{begun_places, one_more, one_behind}
 use Rattle.java_flow.proofs.ExpressionsPass.{expr_passes, value_passes}
 use Rattle.java_flow.proofs.SimplesPass.{local_passes, simple_passes, header_passes}

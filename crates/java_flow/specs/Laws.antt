@@ -10,11 +10,10 @@ use Rattle.java_tree.specs.declared.tree.Local.{Local}
 use Rattle.java_tree.specs.declared.tree.Simple.{Simple}
 use Rattle.java_tree.specs.declared.tree.ForHeader.{ForHeader}
 use Rattle.java_tree.specs.declared.tree.BlockItem.{BlockItem}
-use Rattle.java_tree.specs.declared.tree.BlockItem.TheFolds.{fold-Stmt}
 use Rattle.java_tree.specs.declared.tree.Stmt.{Stmt}
 use Rattle.java_tree.specs.declared.tree.Member.{Member}
 use Rattle.java_tree.specs.declared.tree.Class.{Class}
-use Rattle.java_tree.specs.Tokens.{Kinds, in_parentheses, expr_tokens, value_tokens, call_tokens, local_tokens, simple_tokens, header_tokens, item_step, statement_step, item_tokens, member_tokens, kinds_of}
+use Rattle.java_tree.specs.Tokens.{Kinds, in_parentheses, expr_tokens, value_tokens, call_tokens, local_tokens, simple_tokens, header_tokens, item_tokens, statement_tokens, member_tokens, kinds_of}
 use Rattle.java_flow.specs.Points.{Point, behind}
 use Rattle.java_flow.specs.Expressions.{judged, value_walk, call_walk}
 use Rattle.java_flow.specs.Simples.{local_walk, simple_walk}
@@ -24,9 +23,6 @@ use Rattle.java_flow.specs.Findings.{member_walk, class_walk}
 -- Wherever it begins, it ends as many places further on as there are tokens.
 abbrev pub Passes : Kinds → (Point → Point) → Type 0
 Passes tokens walk = (p : Point) → (walk p).places ≡ drop (length tokens) p.places
-
-abbrev pub statement_tokens : Stmt → Kinds
-statement_tokens = fold-Stmt Kinds Kinds item_step statement_step
 
 -- the header of a `for` from its opening parenthesis to behind its closing one, in text order
 abbrev pub header_walk : ForHeader → Point → Point

@@ -46,7 +46,8 @@ use Rattle.java_tree.specs.declared.tree.CallForm.TheOpen as e
 use Rattle.java_tree.specs.declared.tree.BlockItem.{BlockItem}
 use Rattle.java_tree.specs.declared.tree.BlockItem.TheOpen.{BlockItem-F, Stmt-F}
 use Rattle.java_tree.specs.declared.tree.BlockItem.TheOpen as s
-use Rattle.java_tree.specs.declared.tree.BlockItem.TheFolds.{fold-BlockItem}
+use Rattle.java_tree.specs.declared.tree.BlockItem.TheFolds.{fold-BlockItem, fold-Stmt}
+use Rattle.java_tree.specs.declared.tree.Stmt.{Stmt}
 use Rattle.java_tree.specs.declared.tree.CallForm.TheFolds.{fold-CallForm, fold-Expr, fold-Value}
 
 abbrev pub Kinds : Type 0
@@ -222,6 +223,9 @@ statement_step (s.Return v) = k.Reserved word.Return ∷ (returned v ++ sym symb
 
 abbrev pub item_tokens : BlockItem → Kinds
 item_tokens = fold-BlockItem Kinds Kinds item_step statement_step
+
+abbrev pub statement_tokens : Stmt → Kinds
+statement_tokens = fold-Stmt Kinds Kinds item_step statement_step
 
 -- ---- members
 

@@ -13,7 +13,7 @@ use Rattle.java_tree.specs.declared.tree.BlockItem.TheOpen.{BlockItem-F, Stmt-F}
 use Rattle.java_tree.specs.declared.tree.BlockItem.TheOpen as s
 use Rattle.java_tree.specs.declared.tree.BlockItem.TheFolds.{fold-roll-BlockItem, fold-roll-Stmt, ind-BlockItem, ind-Stmt, map-BlockItem, map-Stmt}
 use Rattle.java_tree.specs.declared.types.ExprType.{ExprType}
-use Rattle.java_tree.specs.Tokens.{Kinds, separated, type_tokens, initialiser, partial, local_tokens, simple_tokens, init_tokens, header_tokens, expr_tokens, value_tokens, item_tokens}
+use Rattle.java_tree.specs.Tokens.{Kinds, separated, type_tokens, initialiser, partial, local_tokens, simple_tokens, init_tokens, header_tokens, expr_tokens, value_tokens, item_tokens, statement_tokens}
 use Rattle.java_tree.specs.Tokens as tokens
 use Rattle.java_types.specs.declared.statements.Around.{Around}
 use Rattle.java_types.specs.declared.walk.Env.{Env}
@@ -21,7 +21,7 @@ use Rattle.java_types.specs.declared.walk.Walk.{Walk}
 use Rattle.java_types.specs.Walks.{past}
 use Rattle.java_types.specs.Simples.{simple_walk, simples}
 use Rattle.java_types.specs.Statements.{condition, returned, returned_walk, init_walk, test_walk, header_walk, Running, in_block, in_loop, item_step, statement_step, item_walk, statement_walk}
-use Rattle.java_types.specs.Laws.{statement_tokens}
+use Rattle.java_types.specs.Laws.{}
 use Rattle.java_types.proofs.Lists.{length_map, map_map, fold_map, flat_map_map, flat_map_fuse}
 use Rattle.java_types.proofs.Counting.{Passed, none, within, over, further, stays, counted, after, noted_stays, left_stays, all_pass, past_none_passes, flat_pass}
 use Rattle.java_types.proofs.ExpressionCounts.{expr_counts, value_counts}

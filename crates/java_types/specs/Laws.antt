@@ -10,10 +10,9 @@ use Rattle.java_tree.specs.declared.tree.Simple.{Simple}
 use Rattle.java_tree.specs.declared.tree.ForHeader.{ForHeader}
 use Rattle.java_tree.specs.declared.tree.BlockItem.{BlockItem}
 use Rattle.java_tree.specs.declared.tree.Stmt.{Stmt}
-use Rattle.java_tree.specs.declared.tree.BlockItem.TheFolds.{fold-Stmt}
 use Rattle.java_tree.specs.declared.tree.Member.{Member}
 use Rattle.java_tree.specs.declared.tree.Class.{Class}
-use Rattle.java_tree.specs.Tokens.{Kinds, in_parentheses, expr_tokens, value_tokens, call_tokens, local_tokens, simple_tokens, header_tokens, item_step, statement_step, item_tokens, member_tokens, kinds_of}
+use Rattle.java_tree.specs.Tokens.{Kinds, in_parentheses, expr_tokens, value_tokens, call_tokens, local_tokens, simple_tokens, header_tokens, item_tokens, statement_tokens, member_tokens, kinds_of}
 use Rattle.java_types.specs.declared.checking.Refused.{Refused}
 use Rattle.java_types.specs.declared.members.Seen.{Seen}
 use Rattle.java_types.specs.declared.statements.Around.{Around}
@@ -37,9 +36,6 @@ pub record FirstIsLeast : Type 0 where
 -- Behind a part of a class the walk is as many tokens further as the part has, as far as there are places.
 abbrev pub Passes : Env → Kinds → (Walk → Walk) → Type 0
 Passes env tokens behind = (w : Walk) → w.at ≤ env.limit → (behind w).at ≡ min (w.at + length tokens) env.limit
-
-abbrev pub statement_tokens : Stmt → Kinds
-statement_tokens = fold-Stmt Kinds Kinds item_step statement_step
 
 -- So it is behind each part, and behind the last member it has passed all tokens of the class but one.
 pub record PassesEachToken : Type 0 where
