@@ -21,7 +21,6 @@ use Rattle.java_types.specs.declared.walk.Walk.{Walk}
 use Rattle.java_types.specs.Walks.{past}
 use Rattle.java_types.specs.Simples.{simple_walk, simples}
 use Rattle.java_types.specs.Statements.{condition, returned, returned_walk, init_walk, test_walk, header_walk, Running, in_block, in_loop, item_step, statement_step, item_walk, statement_walk}
-use Rattle.java_types.specs.Laws.{}
 use Rattle.java_types.proofs.Lists.{length_map, map_map, fold_map, flat_map_map, flat_map_fuse}
 use Rattle.java_types.proofs.Counting.{Passed, none, within, over, further, stays, counted, after, noted_stays, left_stays, all_pass, past_none_passes, flat_pass}
 use Rattle.java_types.proofs.ExpressionCounts.{expr_counts, value_counts}
