@@ -6,3 +6,5 @@ pub mod ExpressionsPass
 pub mod SimplesPass
 pub mod StatementsPass
 pub mod MembersPass
+pub mod Standing
+pub mod Words

@@ -1,5 +1,5 @@
 -- Sets of names, as which variables are assigned.
-use Rattle.std.proofs.Common.{◌≡◌, ℕ, zero, suc, Bool, true, false, not, cond, ◌&&◌, ◌||◌, List, [], ◌∷◌, ◌++◌, ◌<◌, ◌≤◌, ◌+◌, length, drop, get_or, refl, sym, ap, subst, ◌∙◌, arith, add-one, drop-cons}
+use Rattle.std.proofs.Common.{◌≡◌, ℕ, Bool, true, false, not, cond, ◌&&◌, ◌||◌, List, [], ◌∷◌, ◌++◌, ◌<◌, ◌≤◌, ◌+◌, length, drop, get_or, refl, sym, ap, subst, ◌∙◌, add-one, drop-cons}
 use Rattle.std.specs.List.{list_any, filter}
 use Rattle.std.specs.Str.{bytes_eq}
 use Rattle.std.proofs.lemmas.List.{drop_all}
@@ -7,10 +7,10 @@ use Rattle.std.proofs.lemmas.Slice.Eq.{bytes_eq-Decides}
 use Rattle.java_flow.specs.Assigned.{Assigned, all_but, also, both, except}
 
 -- what is equal at each name is equal
-equal : {a b : Assigned} → ((name : List ℕ) → a name ≡ b name) → a ≡ b
+pub equal : {a b : Assigned} → ((name : List ℕ) → a name ≡ b name) → a ≡ b
 equal h = λ i name. h name i
 
-same : (x y : List ℕ) → bytes_eq x y ≡ true → x ≡ y
+pub same : (x y : List ℕ) → bytes_eq x y ≡ true → x ≡ y
 same x y e = (bytes_eq-Decides x y).0 e
 
 -- what is left when one name is taken out
@@ -107,19 +107,3 @@ one_more a b all i one end changed within is so_far =
 
 pub at_end : (a : Assigned) (all : List (List ℕ)) (i : ℕ) (end : Assigned) → length all ≤ i → both a (all_but (drop i all)) ≡ end → a ≡ end
 at_end a all i end past so_far = sym (none_left a) ∙ (ap (λ rest. both a (all_but rest)) (sym (drop_all i all past)) ∙ so_far)
-
-any_at : {A : Type 0} (test : A → Bool) (all : List A) (i : ℕ) (d : A) → i < length all → test (get_or all i d) ≡ true → list_any test all ≡ true
-any_at test [] i d within e = absurd (omega arith)
-any_at test (x ∷ xs) zero d within e = ap (λ b. b || list_any test xs) e
-any_at test (x ∷ xs) (suc i) d within e = ap (λ b. test x || b) (any_at test xs i d (omega arith) e) ∙ or_true (test x)
-  where
-    or_true : (b : Bool) → (b || true) ≡ true
-    or_true true = refl
-    or_true false = refl
-
-here_at : (name : List ℕ) (all : List (List ℕ)) (i : ℕ) (one : List ℕ) → i < length all → one ≡ get_or all i one → bytes_eq name one ≡ true → list_any (bytes_eq name) all ≡ true
-here_at name all i one within is e = any_at (bytes_eq name) all i one within (ap (bytes_eq name) (sym is) ∙ e)
-
--- a name that stands at this place is left out already
-pub stands_at : (names : List (List ℕ)) (name : List ℕ) (i : ℕ) (one : List ℕ) → i < length names → one ≡ get_or names i one → true ≡ bytes_eq name one → all_but names ≡ except name (all_but names)
-stands_at names name i one within is e = left_out names name (sym (here_at name names i one within is (sym e)))

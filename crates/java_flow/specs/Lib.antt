@@ -1,4 +1,5 @@
 pub mod Assigned
+pub mod Sets
 pub mod Points
 pub mod Constants
 pub mod Expressions

@@ -5,7 +5,8 @@ use Rattle.java_tree.specs.declared.token.Place.{Place}
 use Rattle.java_flow.specs.declared.finding.Finding.{Finding}
 use Rattle.java_flow.specs.declared.finding.Rule.{Rule}
 use Rattle.java_flow.specs.declared.finding.Rule.TheVariants as rule
-use Rattle.java_flow.specs.Assigned.{Assigned, all_assigned, all_but}
+use Rattle.java_flow.specs.Assigned.{Assigned, all_assigned}
+use Rattle.java_flow.specs.Sets.{stands}
 use Rattle.java_flow.specs.declared.walk.Walk.{Walk}
 
 pub record Point : Type 0 where
@@ -25,10 +26,10 @@ abbrev pub seen : Walk → Point
 seen w = record {
   places = w.places.now;
   is_reachable = w.is_reachable;
-  assigned = all_but w.unassigned.items;
+  assigned = stands w.numbers.now w.unassigned;
   is_left = w.is_left;
-  at_breaks = all_but w.at_breaks.items;
-  at_continues = all_but w.at_continues.items;
+  at_breaks = stands w.numbers.now w.at_breaks;
+  at_continues = stands w.numbers.now w.at_continues;
   findings = w.findings;
 }
 

@@ -7,11 +7,10 @@ ghost use Rattle.java_flow.specs.Statements.{told, always, when_true, when_false
 ghost use Rattle.java_flow.specs.Seen.{seen_branch, seen_outside};
 
 use crate::constants::{is_false, is_true};
-use crate::names;
+use crate::names::{self, Unassigned};
 use crate::verdict::Verdict;
 use crate::walk::Walk;
 use java_tree::{ForHeader, Place};
-use sdg_base::Name;
 use std::alloc::{AllocError, Global};
 use std::mem::replace;
 
@@ -29,7 +28,7 @@ pub struct Test {
 #[derive(Drop)]
 pub struct Branch {
     pub is_reachable: bool,
-    pub unassigned: Vec<Name>,
+    pub unassigned: Unassigned,
 }
 
 /// What is known round a loop: where its condition is false, and of the loop that it stands in.
@@ -37,8 +36,8 @@ pub struct Branch {
 pub struct Outside {
     pub exit: Branch,
     pub is_left: bool,
-    pub at_breaks: Vec<Name>,
-    pub at_continues: Vec<Name>,
+    pub at_breaks: Unassigned,
+    pub at_continues: Unassigned,
 }
 
 pub fn told(verdict: &Verdict) -> Test
@@ -66,7 +65,7 @@ pub fn always() -> Test
 
 impl<'a> Walk<'a> {
     fn other_branch(&self, alloc: Global, test: Test) -> Result<Branch, AllocError>
-        ensures { IfOk result (λ b. seen_branch b ≡ when_false test (seen self.now)) }
+        ensures { IfOk result (λ b. seen_branch self.now.numbers.now b ≡ when_false test (seen self.now)) }
     {
         Ok(Branch {
             is_reachable: self.is_reachable,
@@ -75,17 +74,19 @@ impl<'a> Walk<'a> {
     }
 
     fn assign_all_if(&mut self, alloc: Global, is_cut: bool)
-        ensures { seen self.new ≡ with_assigned (unless is_cut) (seen self.old) }
+        ensures walked { seen self.new ≡ with_assigned (unless is_cut) (seen self.old) }
+        ensures same { self.new.numbers.now ≡ self.old.numbers.now }
     {
         if is_cut {
-            self.unassigned = Vec::new(alloc);
+            self.unassigned = names::none(alloc);
         }
     }
 
     /// The branch begins that is taken where the condition is true. The other one is kept.
     pub fn enter_branch(&mut self, alloc: Global, test: Test) -> Result<Branch, AllocError>
-        ensures other { IfOk result (λ b. seen_branch b ≡ when_false test (seen self.old)) }
+        ensures other { IfOk result (λ b. seen_branch self.old.numbers.now b ≡ when_false test (seen self.old)) }
         ensures entered { OnOk result (seen self.new ≡ when_true test (seen self.old)) }
+        ensures same { self.new.numbers.now ≡ self.old.numbers.now }
     {
         let other = self.other_branch(alloc, test)?;
         self.assign_all_if(alloc, test.when_true);
@@ -94,8 +95,9 @@ impl<'a> Walk<'a> {
 
     /// The other branch begins, and the end of this one is kept.
     pub fn switch(&mut self, other: Branch) -> Branch
-        ensures end { seen_branch result ≡ branch_end (seen self.old) }
-        ensures start { seen self.new ≡ branch_start (seen_branch other) (seen self.old) }
+        ensures end { seen_branch self.old.numbers.now result ≡ branch_end (seen self.old) }
+        ensures start { seen self.new ≡ branch_start (seen_branch self.old.numbers.now other) (seen self.old) }
+        ensures same { self.new.numbers.now ≡ self.old.numbers.now }
     {
         Branch {
             is_reachable: replace(&mut self.is_reachable, other.is_reachable),
@@ -105,7 +107,8 @@ impl<'a> Walk<'a> {
 
     /// Two branches meet.
     pub fn meet(&mut self, alloc: Global, other: Branch) -> Result<(), AllocError>
-        ensures { OnOk result (seen self.new ≡ joined (seen_branch other) (seen self.old)) }
+        ensures walked { OnOk result (seen self.new ≡ joined (seen_branch self.old.numbers.now other) (seen self.old)) }
+        ensures same { self.new.numbers.now ≡ self.old.numbers.now }
     {
         self.is_reachable = self.is_reachable || other.is_reachable;
         names::join(alloc, &mut self.unassigned, &other.unassigned)
@@ -113,8 +116,9 @@ impl<'a> Walk<'a> {
 
     /// The body of a loop begins. What is known round it is kept.
     pub fn enter_loop(&mut self, alloc: Global, test: Test) -> Result<Outside, AllocError>
-        ensures outside { IfOk result (λ o. seen_outside o ≡ outside test (seen self.old)) }
+        ensures outside { IfOk result (λ o. seen_outside self.old.numbers.now o ≡ outside test (seen self.old)) }
         ensures entered { OnOk result (seen self.new ≡ loop_start test (seen self.old)) }
+        ensures same { self.new.numbers.now ≡ self.old.numbers.now }
     {
         let exit = self.other_branch(alloc, test)?;
         self.assign_all_if(alloc, test.when_true);
@@ -122,8 +126,8 @@ impl<'a> Walk<'a> {
         Ok(Outside {
             exit,
             is_left: replace(&mut self.is_left, false),
-            at_breaks: replace(&mut self.at_breaks, Vec::new(alloc)),
-            at_continues: replace(&mut self.at_continues, Vec::new(alloc)),
+            at_breaks: replace(&mut self.at_breaks, names::none(alloc)),
+            at_continues: replace(&mut self.at_continues, names::none(alloc)),
         })
     }
 
@@ -134,7 +138,8 @@ impl<'a> Walk<'a> {
         test: Test,
         outside: Outside,
     ) -> Result<(), AllocError>
-        ensures { OnOk result (seen self.new ≡ loop_end test (seen_outside outside) (seen self.old)) }
+        ensures walked { OnOk result (seen self.new ≡ loop_end test (seen_outside self.old.numbers.now outside) (seen self.old)) }
+        ensures same { self.new.numbers.now ≡ self.old.numbers.now }
     {
         let Outside {
             exit,

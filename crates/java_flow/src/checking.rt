@@ -6,6 +6,7 @@ ghost use Rattle.java_flow.specs.Findings.{findings, number, is_less, is_earlier
 
 use crate::error::FlowError;
 use crate::finding::{Finding, Rule};
+use crate::locals::numbers_of;
 use crate::walk::Walk;
 use java_tree::{Class, Typed};
 use sqlite_items::Items;
@@ -81,7 +82,8 @@ fn judged(all: &[Finding]) -> Result<(), FlowError>
 fn findings(alloc: Global, class: &Class) -> Result<Items<Finding>, AllocError>
     ensures { IfOk result (λ all. all ≡ findings class.now) }
 {
-    let mut walk = Walk::fresh(alloc, class.places.as_slice());
+    let numbers = numbers_of(alloc, class)?;
+    let mut walk = Walk::fresh(alloc, &numbers, class.places.as_slice());
     walk.class(alloc, class)?;
     Ok(walk.findings)
 }

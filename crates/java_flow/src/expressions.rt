@@ -19,6 +19,7 @@ impl<'a> Walk<'a> {
     pub fn expr(&mut self, expr: &Expr, cut: bool) -> Result<Verdict, AllocError>
         ensures verdict { IfOk result (λ v. v ≡ verdict_of (judged expr.now) cut) }
         ensures walked { OnOk result (seen self.new ≡ (judged expr.now).walk cut (seen self.old)) }
+        ensures same { self.new.numbers.now ≡ self.old.numbers.now }
     {
         match expr {
             Expr::Conditional(test, first, second) => {
@@ -55,7 +56,8 @@ impl<'a> Walk<'a> {
     /// Goes past an expression of which no more is asked, and so many tokens behind it.
     #[cycle(expressions)]
     fn operand(&mut self, expr: &Expr, width: usize, cut: bool) -> Result<(), AllocError>
-        ensures { OnOk result (seen self.new ≡ behind width ((judged expr.now).walk cut (seen self.old))) }
+        ensures walked { OnOk result (seen self.new ≡ behind width ((judged expr.now).walk cut (seen self.old))) }
+        ensures same { self.new.numbers.now ≡ self.old.numbers.now }
     {
         self.expr(expr, cut)?;
         self.pass(width);
@@ -64,7 +66,8 @@ impl<'a> Walk<'a> {
 
     /// A variable is read, and then so many tokens are passed.
     fn variable(&mut self, name: &Name, width: usize, cut: bool) -> Result<(), AllocError>
-        ensures { OnOk result (seen self.new ≡ behind width (reading cut name.now (seen self.old))) }
+        ensures walked { OnOk result (seen self.new ≡ behind width (reading cut name.now (seen self.old))) }
+        ensures same { self.new.numbers.now ≡ self.old.numbers.now }
     {
         self.read(cut, name)?;
         self.pass(width);
@@ -74,6 +77,7 @@ impl<'a> Walk<'a> {
     fn number(&mut self, digits: u64, long: bool, cut: bool) -> Verdict
         ensures verdict { result ≡ verdict_of (expr_step (e.Number digits true long)) cut }
         ensures walked { seen self.new ≡ (expr_step (e.Number digits true long)).walk cut (seen self.old) }
+        ensures same { self.new.numbers.now ≡ self.old.numbers.now }
     {
         self.pass(1);
         settled(literal(digits, long), long, cut, cut)
@@ -82,6 +86,7 @@ impl<'a> Walk<'a> {
     fn truth(&mut self, value: bool, cut: bool) -> Verdict
         ensures verdict { result ≡ verdict_of (expr_step (e.Bool value)) cut }
         ensures walked { seen self.new ≡ (expr_step (e.Bool value)).walk cut (seen self.old) }
+        ensures same { self.new.numbers.now ≡ self.old.numbers.now }
     {
         self.pass(1);
         settled(Some(Some(Val::Bool(value))), false, cut, cut)
@@ -90,6 +95,7 @@ impl<'a> Walk<'a> {
     fn name(&mut self, name: &Name, width: usize, cut: bool) -> Result<Verdict, AllocError>
         ensures verdict { IfOk result (λ v. v ≡ verdict_of (expr_step (e.Name name.now)) cut) }
         ensures walked { OnOk result (seen self.new ≡ behind width (reading cut name.now (seen self.old))) }
+        ensures same { self.new.numbers.now ≡ self.old.numbers.now }
     {
         self.variable(name, width, cut)?;
         Ok(settled(None, false, cut, cut))
@@ -99,6 +105,7 @@ impl<'a> Walk<'a> {
     fn unary(&mut self, op: UnOp, operand: &Expr, cut: bool) -> Result<Verdict, AllocError>
         ensures verdict { IfOk result (λ v. v ≡ verdict_of (expr_step (e.Unary op (judged operand.now))) cut) }
         ensures walked { OnOk result (seen self.new ≡ (expr_step (e.Unary op (judged operand.now))).walk cut (seen self.old)) }
+        ensures same { self.new.numbers.now ≡ self.old.numbers.now }
     {
         self.pass(1);
         let operand = self.expr(operand, cut)?;
@@ -118,6 +125,7 @@ impl<'a> Walk<'a> {
     fn cast(&mut self, to: Num, operand: &Expr, cut: bool) -> Result<Verdict, AllocError>
         ensures verdict { IfOk result (λ v. v ≡ verdict_of (expr_step (e.Cast to (judged operand.now))) cut) }
         ensures walked { OnOk result (seen self.new ≡ (expr_step (e.Cast to (judged operand.now))).walk cut (seen self.old)) }
+        ensures same { self.new.numbers.now ≡ self.old.numbers.now }
     {
         self.pass(3);
         let operand = self.expr(operand, cut)?;
@@ -129,6 +137,7 @@ impl<'a> Walk<'a> {
     fn paren(&mut self, inner: &Expr, cut: bool) -> Result<Verdict, AllocError>
         ensures verdict { IfOk result (λ v. v ≡ verdict_of (expr_step (e.Paren (judged inner.now))) cut) }
         ensures walked { OnOk result (seen self.new ≡ (expr_step (e.Paren (judged inner.now))).walk cut (seen self.old)) }
+        ensures same { self.new.numbers.now ≡ self.old.numbers.now }
     {
         self.pass(1);
         let inner = self.expr(inner, cut)?;
@@ -145,6 +154,7 @@ impl<'a> Walk<'a> {
     fn new_vector(&mut self, size: &Expr, cut: bool) -> Result<Verdict, AllocError>
         ensures verdict { IfOk result (λ v. v ≡ verdict_of (expr_step (e.New [] (judged size.now))) cut) }
         ensures walked { OnOk result (seen self.new ≡ (expr_step (e.New [] (judged size.now))).walk cut (seen self.old)) }
+        ensures same { self.new.numbers.now ≡ self.old.numbers.now }
     {
         self.pass(3);
         self.operand(size, 1, cut)?;
@@ -155,6 +165,7 @@ impl<'a> Walk<'a> {
     fn index(&mut self, name: &Name, at: &Expr, cut: bool) -> Result<Verdict, AllocError>
         ensures verdict { IfOk result (λ v. v ≡ verdict_of (expr_step (e.Index name.now (judged at.now))) cut) }
         ensures walked { OnOk result (seen self.new ≡ (expr_step (e.Index name.now (judged at.now))).walk cut (seen self.old)) }
+        ensures same { self.new.numbers.now ≡ self.old.numbers.now }
     {
         self.variable(name, 2, cut)?;
         self.operand(at, 1, cut)?;
@@ -164,7 +175,8 @@ impl<'a> Walk<'a> {
     /// Goes past a call.
     #[cycle(expressions)]
     pub fn call(&mut self, call: &CallForm, cut: bool) -> Result<(), AllocError>
-        ensures { OnOk result (seen self.new ≡ call_walk call.now cut (seen self.old)) }
+        ensures walked { OnOk result (seen self.new ≡ call_walk call.now cut (seen self.old)) }
+        ensures same { self.new.numbers.now ≡ self.old.numbers.now }
     {
         match call {
             CallForm::Own(_, args) => {
@@ -186,7 +198,8 @@ impl<'a> Walk<'a> {
     /// Goes past arguments and their parentheses.
     #[cycle(expressions)]
     fn args(&mut self, args: &[Value], cut: bool) -> Result<(), AllocError>
-        ensures { OnOk result (seen self.new ≡ args_walk (map value_walk args.now) cut (seen self.old)) }
+        ensures walked { OnOk result (seen self.new ≡ args_walk (map value_walk args.now) cut (seen self.old)) }
+        ensures same { self.new.numbers.now ≡ self.old.numbers.now }
     {
         self.pass_if(args.is_empty(), 1);
         for arg in args {
@@ -200,7 +213,8 @@ impl<'a> Walk<'a> {
     /// Goes past a value.
     #[cycle(expressions)]
     pub fn value(&mut self, value: &Value, cut: bool) -> Result<(), AllocError>
-        ensures { OnOk result (seen self.new ≡ value_walk value.now cut (seen self.old)) }
+        ensures walked { OnOk result (seen self.new ≡ value_walk value.now cut (seen self.old)) }
+        ensures same { self.new.numbers.now ≡ self.old.numbers.now }
     {
         self.pass_if(value.is_global, 2);
         self.operand(&value.expr, 0, cut)

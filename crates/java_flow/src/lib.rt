@@ -1,6 +1,7 @@
 //! Reachability, definite assignment and missing returns in the methods of a class (JLS 8.4.7, 14.22, 16).
 #![tactic(auto)]
 
+mod bits;
 mod branches;
 mod checking;
 mod constants;
@@ -9,8 +10,10 @@ mod expressions;
 mod finding;
 mod judging;
 mod laws;
+mod locals;
 mod members;
 mod names;
+mod numbers;
 mod parts;
 mod simples;
 mod statements;

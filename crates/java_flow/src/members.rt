@@ -5,6 +5,7 @@ ghost use Rattle.java_flow.specs.Points.{seen};
 ghost use Rattle.java_flow.specs.Findings.{behind_name, behind_package, behind_import, behind_imports, is_annotation, behind_modifiers, behind_field, behind_params, is_void, body_start, body_end, behind_header, method_walk, member_walk, members_walk, class_walk};
 
 use crate::finding::Rule;
+use crate::names;
 use crate::walk::Walk;
 use java_tree::{
     Class, Field, FieldModifier, Import, Member, Method, Param, QualifiedName, ResultType,
@@ -28,7 +29,8 @@ fn is_void(kind: &ResultType) -> bool
 
 impl<'a> Walk<'a> {
     fn pass_name(&mut self, name: &QualifiedName)
-        ensures { seen self.new ≡ behind_name name.now (seen self.old) }
+        ensures walked { seen self.new ≡ behind_name name.now (seen self.old) }
+        ensures same { self.new.numbers.now ≡ self.old.numbers.now }
     {
         self.pass(1);
         self.pass(name.others.len());
@@ -36,7 +38,8 @@ impl<'a> Walk<'a> {
     }
 
     fn pass_package(&mut self, name: &Option<QualifiedName>)
-        ensures { seen self.new ≡ behind_package name.now (seen self.old) }
+        ensures walked { seen self.new ≡ behind_package name.now (seen self.old) }
+        ensures same { self.new.numbers.now ≡ self.old.numbers.now }
     {
         if let Some(name) = name {
             self.pass(1);
@@ -46,7 +49,8 @@ impl<'a> Walk<'a> {
     }
 
     fn pass_import(&mut self, import: &Import)
-        ensures { seen self.new ≡ behind_import import.now (seen self.old) }
+        ensures walked { seen self.new ≡ behind_import import.now (seen self.old) }
+        ensures same { self.new.numbers.now ≡ self.old.numbers.now }
     {
         self.pass(1);
         self.pass_if(import.is_static, 1);
@@ -56,7 +60,8 @@ impl<'a> Walk<'a> {
     }
 
     fn pass_imports(&mut self, imports: &[Import])
-        ensures { seen self.new ≡ behind_imports imports.now (seen self.old) }
+        ensures walked { seen self.new ≡ behind_imports imports.now (seen self.old) }
+        ensures same { self.new.numbers.now ≡ self.old.numbers.now }
     {
         for import in imports {
             self.pass_import(import);
@@ -64,7 +69,8 @@ impl<'a> Walk<'a> {
     }
 
     fn pass_modifiers(&mut self, modifiers: &[FieldModifier])
-        ensures { seen self.new ≡ behind_modifiers modifiers.now (seen self.old) }
+        ensures walked { seen self.new ≡ behind_modifiers modifiers.now (seen self.old) }
+        ensures same { self.new.numbers.now ≡ self.old.numbers.now }
     {
         for modifier in modifiers {
             self.pass_if(is_annotation(*modifier), 1);
@@ -73,14 +79,16 @@ impl<'a> Walk<'a> {
     }
 
     fn pass_field(&mut self, field: &Field)
-        ensures { seen self.new ≡ behind_field field.now (seen self.old) }
+        ensures walked { seen self.new ≡ behind_field field.now (seen self.old) }
+        ensures same { self.new.numbers.now ≡ self.old.numbers.now }
     {
         self.pass_modifiers(field.modifiers.as_slice());
         self.pass(8);
     }
 
     fn pass_params(&mut self, params: &[Param])
-        ensures { seen self.new ≡ behind_params params.now (seen self.old) }
+        ensures walked { seen self.new ≡ behind_params params.now (seen self.old) }
+        ensures same { self.new.numbers.now ≡ self.old.numbers.now }
     {
         for param in params {
             self.pass_if(param.is_collection, 2);
@@ -91,7 +99,8 @@ impl<'a> Walk<'a> {
 
     /// Goes past what stands before the body of a method.
     fn pass_header(&mut self, method: &Method)
-        ensures { seen self.new ≡ behind_header method.now (seen self.old) }
+        ensures walked { seen self.new ≡ behind_header method.now (seen self.old) }
+        ensures same { self.new.numbers.now ≡ self.old.numbers.now }
     {
         self.pass(method.modifiers.len());
         self.pass(2);
@@ -102,18 +111,20 @@ impl<'a> Walk<'a> {
 
     /// The body of a method begins.
     fn start_body(&mut self, alloc: Global)
-        ensures { seen self.new ≡ body_start (seen self.old) }
+        ensures walked { seen self.new ≡ body_start (seen self.old) }
+        ensures same { self.new.numbers.now ≡ self.old.numbers.now }
     {
         self.is_reachable = true;
-        self.unassigned = Vec::new(alloc);
+        self.unassigned = names::none(alloc);
         self.is_left = false;
-        self.at_breaks = Vec::new(alloc);
-        self.at_continues = Vec::new(alloc);
+        self.at_breaks = names::none(alloc);
+        self.at_continues = names::none(alloc);
     }
 
     /// The body of a method ends at its closing brace.
     fn end_body(&mut self, kind: &ResultType) -> Result<(), AllocError>
-        ensures { OnOk result (seen self.new ≡ body_end kind.now (seen self.old)) }
+        ensures walked { OnOk result (seen self.new ≡ body_end kind.now (seen self.old)) }
+        ensures same { self.new.numbers.now ≡ self.old.numbers.now }
     {
         let is_fine = is_void(kind) || !self.is_reachable;
         self.note_unless(is_fine, Rule::MissingReturn)?;
@@ -122,7 +133,8 @@ impl<'a> Walk<'a> {
     }
 
     fn method(&mut self, alloc: Global, method: &Method) -> Result<(), AllocError>
-        ensures { OnOk result (seen self.new ≡ method_walk method.now (seen self.old)) }
+        ensures walked { OnOk result (seen self.new ≡ method_walk method.now (seen self.old)) }
+        ensures same { self.new.numbers.now ≡ self.old.numbers.now }
     {
         self.pass_header(method);
         self.start_body(alloc);
@@ -131,7 +143,8 @@ impl<'a> Walk<'a> {
     }
 
     fn member(&mut self, alloc: Global, member: &Member) -> Result<(), AllocError>
-        ensures { OnOk result (seen self.new ≡ member_walk member.now (seen self.old)) }
+        ensures walked { OnOk result (seen self.new ≡ member_walk member.now (seen self.old)) }
+        ensures same { self.new.numbers.now ≡ self.old.numbers.now }
     {
         match member {
             Member::Field(field) => {
@@ -143,7 +156,8 @@ impl<'a> Walk<'a> {
     }
 
     fn members(&mut self, alloc: Global, members: &[Member]) -> Result<(), AllocError>
-        ensures { OnOk result (seen self.new ≡ members_walk members.now (seen self.old)) }
+        ensures walked { OnOk result (seen self.new ≡ members_walk members.now (seen self.old)) }
+        ensures same { self.new.numbers.now ≡ self.old.numbers.now }
     {
         for member in members {
             self.member(alloc, member)?;
@@ -153,7 +167,8 @@ impl<'a> Walk<'a> {
 
     /// Goes past a class.
     pub fn class(&mut self, alloc: Global, class: &Class) -> Result<(), AllocError>
-        ensures { OnOk result (seen self.new ≡ class_walk class.now (seen self.old)) }
+        ensures walked { OnOk result (seen self.new ≡ class_walk class.now (seen self.old)) }
+        ensures same { self.new.numbers.now ≡ self.old.numbers.now }
     {
         self.pass_package(&class.package);
         self.pass_imports(class.imports.as_slice());

@@ -8,6 +8,7 @@ ghost use Rattle.java_flow.specs.Statements.{test_of, test_walk, header_test, he
 
 use crate::branches::{Outside, Test, always, told};
 use crate::names;
+use crate::numbers::Numbers;
 use crate::walk::Walk;
 use java_tree::{BlockItem, Expr, ForHeader, ForInit, Place, Value};
 use sdg_base::Name;
@@ -19,6 +20,7 @@ impl<'a> Walk<'a> {
     pub fn condition(&mut self, expr: &Expr) -> Result<Test, AllocError>
         ensures test { IfOk result (λ t. t ≡ test_of expr.now) }
         ensures walked { OnOk result (seen self.new ≡ test_walk expr.now (seen self.old)) }
+        ensures same { self.new.numbers.now ≡ self.old.numbers.now }
     {
         let verdict = self.expr(expr, false)?;
         Ok(told(&verdict))
@@ -28,6 +30,7 @@ impl<'a> Walk<'a> {
     pub fn header_test(&mut self, test: &Option<Expr>) -> Result<Test, AllocError>
         ensures test { IfOk result (λ t. t ≡ header_test test.now) }
         ensures walked { OnOk result (seen self.new ≡ header_test_walk test.now (seen self.old)) }
+        ensures same { self.new.numbers.now ≡ self.old.numbers.now }
     {
         match test {
             None => Ok(always()),
@@ -37,7 +40,8 @@ impl<'a> Walk<'a> {
 
     /// Goes past the start of a `for`, and the token before it.
     pub fn init(&mut self, alloc: Global, init: &ForInit) -> Result<(), AllocError>
-        ensures { OnOk result (seen self.new ≡ init_walk init.now (seen self.old)) }
+        ensures walked { OnOk result (seen self.new ≡ init_walk init.now (seen self.old)) }
+        ensures same { self.new.numbers.now ≡ self.old.numbers.now }
     {
         match init {
             ForInit::Nothing => {
@@ -53,25 +57,27 @@ impl<'a> Walk<'a> {
     }
 
     /// A walk of which only the places count.
-    pub fn fresh(alloc: Global, places: &'a [Place]) -> Walk<'a>
+    pub fn fresh(alloc: Global, numbers: &'a Numbers, places: &'a [Place]) -> Walk<'a>
         ensures { seen result ≡ fresh places.now }
     {
         Walk {
+            numbers,
             places,
             is_reachable: true,
-            unassigned: Vec::new(alloc),
+            unassigned: names::none(alloc),
             is_left: false,
-            at_breaks: Vec::new(alloc),
-            at_continues: Vec::new(alloc),
+            at_breaks: names::none(alloc),
+            at_continues: names::none(alloc),
             findings: Items::new(alloc),
         }
     }
 
     /// Goes past the update of a `for`, which is judged behind the body, and the parenthesis.
     pub fn pass_update(&mut self, alloc: Global, header: &ForHeader) -> Result<(), AllocError>
-        ensures { OnOk result (seen self.new ≡ behind_update header.now (seen self.old)) }
+        ensures walked { OnOk result (seen self.new ≡ behind_update header.now (seen self.old)) }
+        ensures same { self.new.numbers.now ≡ self.old.numbers.now }
     {
-        let mut ahead = Walk::fresh(alloc, self.places);
+        let mut ahead = Walk::fresh(alloc, self.numbers, self.places);
         ahead.simples(header.update.as_slice())?;
         self.places = ahead.places;
         self.pass(1);
@@ -80,7 +86,8 @@ impl<'a> Walk<'a> {
 
     /// The update of a `for` begins, whose tokens stand there.
     fn start_update(&mut self, alloc: Global, places: &'a [Place]) -> Result<(), AllocError>
-        ensures { OnOk result (seen self.new ≡ update_start places.now (seen self.old)) }
+        ensures walked { OnOk result (seen self.new ≡ update_start places.now (seen self.old)) }
+        ensures same { self.new.numbers.now ≡ self.old.numbers.now }
     {
         self.places = places;
         names::join(alloc, &mut self.unassigned, &self.at_continues)
@@ -95,7 +102,8 @@ impl<'a> Walk<'a> {
         update: &'a [Place],
         outside: Outside,
     ) -> Result<(), AllocError>
-        ensures { OnOk result (seen self.new ≡ for_end test header.now update.now (seen_outside outside) (seen self.old)) }
+        ensures walked { OnOk result (seen self.new ≡ for_end test header.now update.now (seen_outside self.old.numbers.now outside) (seen self.old)) }
+        ensures same { self.new.numbers.now ≡ self.old.numbers.now }
     {
         let behind = self.places;
         self.start_update(alloc, update)?;
@@ -106,7 +114,8 @@ impl<'a> Walk<'a> {
     }
 
     pub fn break_here(&mut self, alloc: Global) -> Result<(), AllocError>
-        ensures { OnOk result (seen self.new ≡ break_here (seen self.old)) }
+        ensures walked { OnOk result (seen self.new ≡ break_here (seen self.old)) }
+        ensures same { self.new.numbers.now ≡ self.old.numbers.now }
     {
         names::join(alloc, &mut self.at_breaks, &self.unassigned)?;
         self.is_left = self.is_left || self.is_reachable;
@@ -115,7 +124,8 @@ impl<'a> Walk<'a> {
     }
 
     pub fn continue_here(&mut self, alloc: Global) -> Result<(), AllocError>
-        ensures { OnOk result (seen self.new ≡ continue_here (seen self.old)) }
+        ensures walked { OnOk result (seen self.new ≡ continue_here (seen self.old)) }
+        ensures same { self.new.numbers.now ≡ self.old.numbers.now }
     {
         names::join(alloc, &mut self.at_continues, &self.unassigned)?;
         self.stop(alloc);
@@ -123,7 +133,8 @@ impl<'a> Walk<'a> {
     }
 
     pub fn returned(&mut self, value: &Option<Boxed<Value>>) -> Result<(), AllocError>
-        ensures { OnOk result (seen self.new ≡ returned value.now (seen self.old)) }
+        ensures walked { OnOk result (seen self.new ≡ returned value.now (seen self.old)) }
+        ensures same { self.new.numbers.now ≡ self.old.numbers.now }
     {
         match value {
             None => Ok(()),
@@ -133,15 +144,17 @@ impl<'a> Walk<'a> {
 
     /// The scope of a local ends.
     fn end_scope(&mut self, name: &Name)
-        ensures { seen self.new ≡ scope_end (name.now ∷ []) (seen self.old) }
+        ensures walked { seen self.new ≡ scope_end (name.now ∷ []) (seen self.old) }
+        ensures same { self.new.numbers.now ≡ self.old.numbers.now }
     {
-        names::assign(&mut self.unassigned, name);
-        names::assign(&mut self.at_breaks, name);
-        names::assign(&mut self.at_continues, name);
+        names::assign(self.numbers, &mut self.unassigned, name);
+        names::assign(self.numbers, &mut self.at_breaks, name);
+        names::assign(self.numbers, &mut self.at_continues, name);
     }
 
     pub fn end_init(&mut self, init: &ForInit)
-        ensures { seen self.new ≡ scope_end (init_names init.now) (seen self.old) }
+        ensures walked { seen self.new ≡ scope_end (init_names init.now) (seen self.old) }
+        ensures same { self.new.numbers.now ≡ self.old.numbers.now }
     {
         if let ForInit::Local(local) = init {
             self.end_scope(&local.name);
@@ -149,7 +162,8 @@ impl<'a> Walk<'a> {
     }
 
     fn end_item(&mut self, item: &BlockItem)
-        ensures { seen self.new ≡ scope_end (item_of item.now).names (seen self.old) }
+        ensures walked { seen self.new ≡ scope_end (item_of item.now).names (seen self.old) }
+        ensures same { self.new.numbers.now ≡ self.old.numbers.now }
     {
         if let BlockItem::Local(local) = item {
             self.end_scope(&local.get().name);
@@ -158,7 +172,8 @@ impl<'a> Walk<'a> {
 
     /// The scope of the locals that these declare ends.
     pub fn end_items(&mut self, items: &[BlockItem])
-        ensures { seen self.new ≡ scope_end (flat_map (λ i. i.names) (map item_of items.now)) (seen self.old) }
+        ensures walked { seen self.new ≡ scope_end (flat_map (λ i. i.names) (map item_of items.now)) (seen self.old) }
+        ensures same { self.new.numbers.now ≡ self.old.numbers.now }
     {
         for item in items {
             self.end_item(item);

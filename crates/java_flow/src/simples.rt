@@ -11,7 +11,8 @@ use std::alloc::{AllocError, Global};
 
 impl<'a> Walk<'a> {
     fn initialiser(&mut self, name: &Name, value: &Option<Value>) -> Result<(), AllocError>
-        ensures { OnOk result (seen self.new ≡ initialised name.now value.now (seen self.old)) }
+        ensures walked { OnOk result (seen self.new ≡ initialised name.now value.now (seen self.old)) }
+        ensures same { self.new.numbers.now ≡ self.old.numbers.now }
     {
         if let Some(value) = value {
             self.pass(1);
@@ -23,7 +24,8 @@ impl<'a> Walk<'a> {
 
     /// Goes past the declaration of a local.
     pub fn local(&mut self, alloc: Global, local: &Local) -> Result<(), AllocError>
-        ensures { OnOk result (seen self.new ≡ local_walk local.now (seen self.old)) }
+        ensures walked { OnOk result (seen self.new ≡ local_walk local.now (seen self.old)) }
+        ensures same { self.new.numbers.now ≡ self.old.numbers.now }
     {
         self.pass_if(local.is_partial, 2);
         self.pass(2);
@@ -33,7 +35,8 @@ impl<'a> Walk<'a> {
 
     /// Every assignment but a plain one reads its target.
     fn target(&mut self, op: AssignOp, name: &Name) -> Result<(), AllocError>
-        ensures { OnOk result (seen self.new ≡ target op name.now (seen self.old)) }
+        ensures walked { OnOk result (seen self.new ≡ target op name.now (seen self.old)) }
+        ensures same { self.new.numbers.now ≡ self.old.numbers.now }
     {
         match op {
             AssignOp::Assign => Ok(()),
@@ -43,7 +46,8 @@ impl<'a> Walk<'a> {
 
     /// A variable is stepped up or down, behind so many tokens and before so many.
     fn step(&mut self, before: usize, name: &Name, width: usize) -> Result<(), AllocError>
-        ensures { OnOk result (seen self.new ≡ behind width (step_here name.now (behind before (seen self.old)))) }
+        ensures walked { OnOk result (seen self.new ≡ behind width (step_here name.now (behind before (seen self.old)))) }
+        ensures same { self.new.numbers.now ≡ self.old.numbers.now }
     {
         self.pass(before);
         self.read(false, name)?;
@@ -54,7 +58,8 @@ impl<'a> Walk<'a> {
 
     /// Goes past a simple statement.
     pub fn simple(&mut self, simple: &Simple) -> Result<(), AllocError>
-        ensures { OnOk result (seen self.new ≡ simple_walk simple.now (seen self.old)) }
+        ensures walked { OnOk result (seen self.new ≡ simple_walk simple.now (seen self.old)) }
+        ensures same { self.new.numbers.now ≡ self.old.numbers.now }
     {
         match simple {
             Simple::Assign(name, op, value) => {
@@ -75,7 +80,8 @@ impl<'a> Walk<'a> {
 
     /// Goes past simple statements, before each of which one token stands.
     pub fn simples(&mut self, all: &[Simple]) -> Result<(), AllocError>
-        ensures { OnOk result (seen self.new ≡ simples_walk all.now (seen self.old)) }
+        ensures walked { OnOk result (seen self.new ≡ simples_walk all.now (seen self.old)) }
+        ensures same { self.new.numbers.now ≡ self.old.numbers.now }
     {
         self.pass_if(all.is_empty(), 1);
         for simple in all {

@@ -13,7 +13,8 @@ impl<'a> Walk<'a> {
     /// Goes past a block, up to its closing brace.
     #[cycle(statements)]
     pub fn block(&mut self, alloc: Global, items: &[BlockItem]) -> Result<(), AllocError>
-        ensures { OnOk result (seen self.new ≡ block_walk (map item_of items.now) (seen self.old)) }
+        ensures walked { OnOk result (seen self.new ≡ block_walk (map item_of items.now) (seen self.old)) }
+        ensures same { self.new.numbers.now ≡ self.old.numbers.now }
     {
         self.pass(1);
         for item in items {
@@ -25,7 +26,8 @@ impl<'a> Walk<'a> {
 
     #[cycle(statements)]
     fn item(&mut self, alloc: Global, item: &BlockItem) -> Result<(), AllocError>
-        ensures { OnOk result (seen self.new ≡ (item_of item.now).walk (seen self.old)) }
+        ensures walked { OnOk result (seen self.new ≡ (item_of item.now).walk (seen self.old)) }
+        ensures same { self.new.numbers.now ≡ self.old.numbers.now }
     {
         match item {
             BlockItem::Local(local) => {
@@ -41,7 +43,8 @@ impl<'a> Walk<'a> {
     /// Goes past a loop from behind its condition on.
     #[cycle(statements)]
     fn while_loop(&mut self, alloc: Global, body: &Stmt, test: Test) -> Result<(), AllocError>
-        ensures { OnOk result (seen self.new ≡ while_walk test (statement_walk body.now) (seen self.old)) }
+        ensures walked { OnOk result (seen self.new ≡ while_walk test (statement_walk body.now) (seen self.old)) }
+        ensures same { self.new.numbers.now ≡ self.old.numbers.now }
     {
         let outside = self.enter_loop(alloc, test)?;
         self.statement(alloc, body)?;
@@ -56,7 +59,8 @@ impl<'a> Walk<'a> {
         test: Test,
         header: &ForHeader,
     ) -> Result<(), AllocError>
-        ensures { OnOk result (seen self.new ≡ for_walk test header.now (statement_walk body.now) (seen self.old)) }
+        ensures walked { OnOk result (seen self.new ≡ for_walk test header.now (statement_walk body.now) (seen self.old)) }
+        ensures same { self.new.numbers.now ≡ self.old.numbers.now }
     {
         let update = self.places;
         self.pass_update(alloc, header)?;
@@ -68,7 +72,8 @@ impl<'a> Walk<'a> {
     /// Goes past a statement.
     #[cycle(statements)]
     fn statement(&mut self, alloc: Global, statement: &Stmt) -> Result<(), AllocError>
-        ensures { OnOk result (seen self.new ≡ statement_walk statement.now (seen self.old)) }
+        ensures walked { OnOk result (seen self.new ≡ statement_walk statement.now (seen self.old)) }
+        ensures same { self.new.numbers.now ≡ self.old.numbers.now }
     {
         self.begin()?;
         match statement {

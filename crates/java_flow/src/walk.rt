@@ -5,7 +5,8 @@ ghost use Rattle.java_flow.specs.Assigned.{also, except};
 ghost use Rattle.java_flow.specs.Points.{seen, behind, behind_if, found, found_unless, reading, begun, stopped, with_assigned};
 
 use crate::finding::{Finding, Rule};
-use crate::names;
+use crate::names::{self, Unassigned};
+use crate::numbers::Numbers;
 use java_tree::Place;
 use sdg_base::Name;
 use sqlite_items::Items;
@@ -14,12 +15,13 @@ use std::alloc::{AllocError, Global};
 /// Where a walk is: before these tokens, with what is known of the point there.
 #[derive(Drop)]
 pub struct Walk<'a> {
+    pub numbers: &'a Numbers,
     pub places: &'a [Place],
     pub is_reachable: bool,
-    pub unassigned: Vec<Name>,
+    pub unassigned: Unassigned,
     pub is_left: bool,
-    pub at_breaks: Vec<Name>,
-    pub at_continues: Vec<Name>,
+    pub at_breaks: Unassigned,
+    pub at_continues: Unassigned,
     pub findings: Items<Finding>,
 }
 
@@ -36,13 +38,15 @@ fn rest(places: &[Place], count: usize) -> &[Place]
 impl<'a> Walk<'a> {
     /// Goes on behind so many tokens.
     pub fn pass(&mut self, count: usize)
-        ensures { seen self.new ≡ behind count (seen self.old) }
+        ensures walked { seen self.new ≡ behind count (seen self.old) }
+        ensures same { self.new.numbers.now ≡ self.old.numbers.now }
     {
         self.places = rest(self.places, count);
     }
 
     pub fn pass_if(&mut self, stands_there: bool, count: usize)
-        ensures { seen self.new ≡ behind_if stands_there count (seen self.old) }
+        ensures walked { seen self.new ≡ behind_if stands_there count (seen self.old) }
+        ensures same { self.new.numbers.now ≡ self.old.numbers.now }
     {
         if stands_there {
             self.pass(count);
@@ -51,7 +55,8 @@ impl<'a> Walk<'a> {
 
     /// Notes a finding at the next token.
     pub fn note(&mut self, rule: Rule) -> Result<(), AllocError>
-        ensures { OnOk result (seen self.new ≡ found rule (seen self.old)) }
+        ensures walked { OnOk result (seen self.new ≡ found rule (seen self.old)) }
+        ensures same { self.new.numbers.now ≡ self.old.numbers.now }
     {
         if let Some(place) = self.places.first() {
             self.findings.push(Finding {
@@ -63,7 +68,8 @@ impl<'a> Walk<'a> {
     }
 
     pub fn note_unless(&mut self, is_fine: bool, rule: Rule) -> Result<(), AllocError>
-        ensures { OnOk result (seen self.new ≡ found_unless is_fine rule (seen self.old)) }
+        ensures walked { OnOk result (seen self.new ≡ found_unless is_fine rule (seen self.old)) }
+        ensures same { self.new.numbers.now ≡ self.old.numbers.now }
     {
         if !is_fine {
             self.note(rule)?;
@@ -73,37 +79,42 @@ impl<'a> Walk<'a> {
 
     /// The variable at the next token is read.
     pub fn read(&mut self, is_cut: bool, name: &Name) -> Result<(), AllocError>
-        ensures { OnOk result (seen self.new ≡ reading is_cut name.now (seen self.old)) }
+        ensures walked { OnOk result (seen self.new ≡ reading is_cut name.now (seen self.old)) }
+        ensures same { self.new.numbers.now ≡ self.old.numbers.now }
     {
-        let is_assigned = is_cut || !names::is_in(&self.unassigned, name);
+        let is_assigned = is_cut || names::is_assigned(self.numbers, &self.unassigned, name);
         self.note_unless(is_assigned, Rule::Unassigned)
     }
 
     /// A statement begins at the next token.
     pub fn begin(&mut self) -> Result<(), AllocError>
-        ensures { OnOk result (seen self.new ≡ begun (seen self.old)) }
+        ensures walked { OnOk result (seen self.new ≡ begun (seen self.old)) }
+        ensures same { self.new.numbers.now ≡ self.old.numbers.now }
     {
         let is_reachable = self.is_reachable;
         self.note_unless(is_reachable, Rule::Unreachable)
     }
 
     pub fn declare(&mut self, alloc: Global, name: &Name) -> Result<(), AllocError>
-        ensures { OnOk result (seen self.new ≡ with_assigned (except name.now) (seen self.old)) }
+        ensures walked { OnOk result (seen self.new ≡ with_assigned (except name.now) (seen self.old)) }
+        ensures same { self.new.numbers.now ≡ self.old.numbers.now }
     {
-        names::declare(alloc, &mut self.unassigned, name)
+        names::declare(alloc, self.numbers, &mut self.unassigned, name)
     }
 
     pub fn assign(&mut self, name: &Name)
-        ensures { seen self.new ≡ with_assigned (also name.now) (seen self.old) }
+        ensures walked { seen self.new ≡ with_assigned (also name.now) (seen self.old) }
+        ensures same { self.new.numbers.now ≡ self.old.numbers.now }
     {
-        names::assign(&mut self.unassigned, name);
+        names::assign(self.numbers, &mut self.unassigned, name);
     }
 
     /// What stands here doesn't complete normally.
     pub fn stop(&mut self, alloc: Global)
-        ensures { seen self.new ≡ stopped (seen self.old) }
+        ensures walked { seen self.new ≡ stopped (seen self.old) }
+        ensures same { self.new.numbers.now ≡ self.old.numbers.now }
     {
         self.is_reachable = false;
-        self.unassigned = Vec::new(alloc);
+        self.unassigned = names::none(alloc);
     }
 }
