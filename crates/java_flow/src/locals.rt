@@ -52,7 +52,7 @@ impl Numbers {
 }
 
 /// A number for each local that the methods of a class declare.
-pub fn numbers_of(alloc: Global, class: &Class) -> Result<Numbers, AllocError> {
+pub(crate) fn numbers_of(alloc: Global, class: &Class) -> Result<Numbers, AllocError> {
     let mut numbers = Numbers::new(alloc);
     for member in class.members.as_slice() {
         if let Member::Method(method) = member {

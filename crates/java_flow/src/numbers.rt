@@ -1,6 +1,6 @@
 //! Numbers for names.
 
-ghost use Rattle.std.specs.Prelude.{◌≡◌};
+ghost use Rattle.std.specs.Prelude.{◌≡◌, []};
 ghost use Rattle.java_flow.specs.Sets.{number_of};
 
 use indexmap::IndexSet;
@@ -25,7 +25,9 @@ impl Model for Numbers {
 
 impl Numbers {
     /// No names.
-    pub fn new(alloc: Global) -> Numbers {
+    pub fn new(alloc: Global) -> Numbers
+        ensures { result ≡ [] }
+    {
         Numbers {
             alloc,
             names: IndexSet::new(alloc),
@@ -33,7 +35,7 @@ impl Numbers {
     }
 
     /// Gives a name a number, if it has none.
-    pub fn add(&mut self, name: &Name) -> Result<(), AllocError> {
+    pub(crate) fn add(&mut self, name: &Name) -> Result<(), AllocError> {
         let name = name.as_slice();
         if self.names.contains(name) {
             return Ok(());
