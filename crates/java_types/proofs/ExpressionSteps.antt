@@ -21,8 +21,8 @@ use Rattle.java_types.specs.declared.walk.Walk.{Walk}
 use Rattle.java_types.specs.Fits.{is_known, are_vectors_compared, sort_of}
 use Rattle.java_types.specs.Methods.{method_of}
 use Rattle.java_types.specs.Names.{entry_of}
-use Rattle.java_types.specs.Walks.{past, opened}
-use Rattle.java_types.specs.Expressions.{Reading, Argument, Calling, Argued, clash, operated, chosen, unary, cast, number, made, sized, indexed, member, passed, refused_call, own_of, own, own_params, callee_of, of, parts, arguments, argued, all_argued, is_entry, item, conditional, binary, behind_operator, behind_type, in_parentheses, made_of, called_value, expr_step, call_step}
+use Rattle.java_types.specs.Walks.{Typing, past, opened}
+use Rattle.java_types.specs.Expressions.{Reading, Argument, Calling, Argued, clash, operated, chosen, unary, cast, number, made, sized, indexed, member, passed, refused_call, sound_call, called_by, own_of, own, own_params, callee_of, of, parts, arguments, argued, all_argued, is_entry, item, conditional, binary, behind_operator, behind_type, in_parentheses, made_of, called_value, expr_step, call_step}
 use Rattle.java_types.proofs.Lists.{length_map, fold_map}
 use Rattle.java_types.proofs.Counting.{Stays, Passed, none, within, over, further, stays, counted, after, here, either, noted_stays, opened_stays, used_stays, called_stays, named_passes, typed_passes, before, all_pass, past_none_passes}
 
@@ -59,11 +59,22 @@ passed_stays wanted given at w = noted_stays _ at 7 w
 pub refused_call_stays : (s : Signature) (w : Walk) → Stays w (refused_call s w).walk
 refused_call_stays s w = either (is_entry s.kind) _ _ (here w) (called_stays s.number w)
 
+sound_call_stays : (at count : ℕ) (s : Signature) (w : Walk) → Stays w (sound_call at count s w).walk
+sound_call_stays at count s w = after (after (refused_call_stays s w) (noted_stays _ at 13 _)) (noted_stays _ at 6 _)
+
+called_by_stays : (at count : ℕ) (s : Signature) (w : Walk) → Stays w (called_by at count s w).walk
+called_by_stays at count s w = choose s.is_sound _ _ (sound_call_stays at count s w) (here w)
+  where
+    choose : (sound : Bool) (a b : Typing) → Stays w a.walk → Stays w b.walk → Stays w (if sound then a else b).walk
+    choose true a b x y = x
+    choose false a b x y = y
+
 pub own_of_stays : (at count : ℕ) (w : Walk) (s : Option Signature) → Stays w (own_of at count w s).walk
 own_of_stays at count w None = noted_stays true at 3 w
 own_of_stays at count w (Some s) =
-    let r = refused_call_stays s (record w { names = w.names ++ declaration.Method s.number ∷ [] }) in
-    after (after (record { at = r.at }) (noted_stays _ at 13 _)) (noted_stays _ at 6 _)
+    let n : Walk = record w { names = w.names ++ declaration.Method s.number ∷ [] } in
+    let r = called_by_stays at count s n in
+    record { at = r.at }
 
 pub callee_of_stays : (at name_at count : ℕ) (known : Bool) (w : Walk) (s : Option Shape) → Stays w (callee_of at name_at count known w s).walk
 callee_of_stays at name_at count known w None = noted_stays known name_at 3 w

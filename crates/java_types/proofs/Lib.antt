@@ -8,5 +8,6 @@ pub mod Lookups
 pub mod MemberCounts
 pub mod Reaching
 pub mod SimpleCounts
+pub mod Signatures
 pub mod Sizes
 pub mod StatementCounts

@@ -21,9 +21,9 @@ use Rattle.java_tree.specs.declared.tree.Class.{Class}
 use Rattle.java_tree.specs.Tokens.{Kinds, annotation, separated, qualified, package_tokens, import_tokens, modifier_tokens, field_modifier_tokens, field_tokens, result_tokens, param_tokens, method_tokens, member_tokens, item_tokens, kinds_of}
 use Rattle.java_types.specs.declared.walk.Env.{Env}
 use Rattle.java_types.specs.declared.walk.Walk.{Walk}
-use Rattle.java_types.specs.Walks.{most_methods}
+use Rattle.java_types.specs.Walks.{most_fields, most_methods}
 use Rattle.java_types.specs.Statements.{item_walk}
-use Rattle.java_types.specs.Members.{most_fields, named_member, past_field_modifier, field_walk, param_walk, Counted, counted as one_counted, params_walk, result_walk, entered, method_walk, Membering, member_walk, past_qualified, past_package, past_import, head_walk, members_walk}
+use Rattle.java_types.specs.Members.{named_member, past_field_modifier, field_walk, param_walk, Counted, counted as one_counted, params_walk, result_walk, entered, method_walk, Membering, member_walk, past_qualified, past_package, past_import, head_walk, members_walk}
 use Rattle.java_types.specs.Check.{env_of, start, whole}
 use Rattle.java_types.specs.Laws.{PassesEachToken}
 use Rattle.java_types.proofs.Lists.{length_map}

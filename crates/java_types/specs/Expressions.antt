@@ -111,19 +111,26 @@ abbrev pub refused_call : Signature → Walk → Tested
 refused_call s w = if is_entry s.kind then record { holds = true; walk = w } else called s.number w
 
 -- Rules 6 and 13, where a method of this signature is called with as many arguments.
-abbrev pub own_of : ℕ → ℕ → Walk → Option Signature → Typing
-own_of at count w None = record { found = types.Unknown; walk = noted true at 3 w }
-own_of at count w (Some s) =
-    let r = refused_call s (record w { names = w.names ++ declaration.Method s.number ∷ [] }) in
+abbrev pub sound_call : ℕ → ℕ → Signature → Walk → Typing
+sound_call at count s w =
+    let r = refused_call s w in
     let miscounted = not (nat_eq (length s.params) count) in
     record { found = unless (r.holds || miscounted) s.result; walk = noted miscounted at 6 (noted r.holds at 13 r.walk) }
+
+-- A call of a method whose declaration breaks a rule has no type, and breaks none.
+abbrev pub called_by : ℕ → ℕ → Signature → Walk → Typing
+called_by at count s w = if s.is_sound then sound_call at count s w else record { found = types.Unknown; walk = w }
+
+abbrev pub own_of : ℕ → ℕ → Walk → Option Signature → Typing
+own_of at count w None = record { found = types.Unknown; walk = noted true at 3 w }
+own_of at count w (Some s) = called_by at count s (record w { names = w.names ++ declaration.Method s.number ∷ [] })
 
 unfoldable pub own : Env → List ℕ → ℕ → Walk → Typing
 own env name count w = own_of w.at count (past env 1 w) (entry_of name env.methods)
 
 abbrev pub params_in : Option Signature → List ExprType
 params_in None = []
-params_in (Some s) = s.params
+params_in (Some s) = if s.is_sound then s.params else []
 
 unfoldable pub own_params : Env → List ℕ → List ExprType
 own_params env name = params_in (entry_of name env.methods)

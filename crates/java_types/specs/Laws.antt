@@ -1,5 +1,14 @@
 -- What the rules on types rest on.
-use Rattle.std.specs.Prelude.{◌≡◌, ◌+◌, ◌-◌, ◌≤◌, min, Bool, List, [], ◌∷◌, length, Some, None}
+use Rattle.std.specs.Prelude.{◌≡◌, ℕ, ◌+◌, ◌-◌, ◌≤◌, min, Bool, List, [], ◌∷◌, length, map, Option, Some, None, option_map}
+use Rattle.sdg_base.specs.declared.store.ClassName.{ClassName}
+use Rattle.sdg_base.specs.declared.value_type.ValueType.{ValueType}
+use Rattle.sdg_base.specs.declared.value_type.ValueType.TheVariants as signature_types
+use Rattle.sdg_base.specs.Signatures.{Signature, state_method, vector_method}
+use Rattle.java_tree.specs.declared.types.ValueType.TheVariants as value_types
+use Rattle.java_tree.specs.declared.types.ExprType.{ExprType}
+use Rattle.java_tree.specs.declared.types.ExprType.TheVariants as types
+use Rattle.java_types.specs.declared.methods.Shape.{Shape}
+use Rattle.java_types.specs.Methods.{params_of, method_of}
 use Rattle.java_tree.specs.declared.token.Kind.TheVariants as k
 use Rattle.java_tree.specs.declared.token.Reserved.TheVariants as word
 use Rattle.java_tree.specs.declared.tree.Expr.{Expr}
@@ -53,3 +62,28 @@ pub record PassesEachToken : Type 0 where
   pub class : (c : Class) → (whole c).at ≡ min (length (kinds_of c) - 1) (length c.places)
   -- With a place for each token, that brace alone is left.
   pub left : (c : Class) → length c.places ≡ length (kinds_of c) → (whole c).at + 1 ≡ length (kinds_of c)
+
+-- ---- the methods of the classes of state
+
+-- the type of a result, or of a value that is passed
+abbrev pub type_of : ValueType → ExprType
+type_of signature_types.Void = types.Void
+type_of signature_types.Int = types.Value value_types.Int
+type_of signature_types.Long = types.Value value_types.Long
+type_of signature_types.Boolean = types.Value value_types.Boolean
+type_of signature_types.Vector = types.Value value_types.Vector
+
+-- the types of the parameters and of the result
+abbrev pub types_of_shape : Shape → List ExprType × ExprType
+types_of_shape s = (params_of s.params, s.result)
+
+abbrev pub types_of_signature : Signature → List ExprType × ExprType
+types_of_signature s = (map type_of s.arguments, type_of s.result)
+
+abbrev pub Agree : Option Shape → Option Signature → Type 0
+Agree shape signature = option_map types_of_shape shape ≡ option_map types_of_signature signature
+
+-- What is called behind a dot takes and gives what the signatures of the classes of state and of vectors say.
+pub record MethodsHaveTheirSignatures : Type 0 where
+  pub state : (class : ClassName) (name : List ℕ) → Agree (method_of (types.State class) name) (state_method class name)
+  pub vector : (name : List ℕ) → Agree (method_of (types.Value value_types.Vector) name) (vector_method name)

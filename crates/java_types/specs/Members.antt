@@ -20,15 +20,12 @@ use Rattle.java_types.specs.declared.walk.Walk.{Walk}
 use Rattle.java_types.specs.declared.members.Seen.{Seen}
 use Rattle.java_types.specs.Names.{entry_of, with_entry}
 use Rattle.java_types.specs.Words.{state_class, is_reserved, is_type}
-use Rattle.java_types.specs.Walks.{past, past_if, noted, most_methods}
+use Rattle.java_types.specs.Walks.{past, past_if, noted, most_fields, most_methods}
 use Rattle.java_types.specs.Expressions.{past_none}
 use Rattle.java_types.specs.Simples.{typed_name, declared}
 use Rattle.java_types.specs.Declarations.{param_type, result_type}
 use Rattle.java_types.specs.Statements.{in_block, item_walk}
 use Rattle.std.specs.Prelude.{map}
-
-abbrev pub most_fields : ℕ
-most_fields = 64
 
 -- what is known, and the names of the fields or methods before
 pub record Naming : Type 0 where

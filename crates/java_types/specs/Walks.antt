@@ -66,6 +66,9 @@ named env name w = used_as w.at (past env 1 w) (variable env w name)
 unfoldable pub used : ℕ → Typing → Typing
 used at t = record { found = unless (is_void t.found) t.found; walk = noted (is_void t.found) at 7 t.walk }
 
+abbrev pub most_fields : ℕ
+most_fields = 64
+
 abbrev pub most_methods : ℕ
 most_methods = 256
 

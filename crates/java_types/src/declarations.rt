@@ -1,25 +1,43 @@
 //! The fields and methods of a class.
 
-ghost use Rattle.std.specs.Prelude.{◌≡◌, map, IfOk, OnOk};
+ghost use Rattle.std.specs.Prelude.{◌≡◌, not, map, IfOk, OnOk};
 ghost use Rattle.std.specs.List.{list_any};
 ghost use Rattle.java_tree.specs.declared.tree.Member.TheVariants as members;
 ghost use Rattle.java_types.specs.Declarations as spec;
 ghost use Rattle.java_types.specs.Check.{env_of};
+ghost use Rattle.java_types.specs.Fits.{is_known};
 
+use crate::calls::METHODS_MAX;
 use crate::names::Names;
 use crate::simples::declared_type;
 use crate::walk::{Env, MethodKind, Signature, Variable};
-use crate::words;
+use crate::{fits, words};
 use java_tree::{Class, Declaration, ExprType, Field, Member, Method, Modifier, Param, ResultType};
+use sdg_base::ClassName;
 use sqlite_items::Items;
 use std::alloc::{AllocError, Global};
 
-fn field_type(field: &Field) -> ExprType
-    ensures { result ≡ spec.field_type field.now }
+/// How many fields a class may have.
+pub const FIELDS_MAX: usize = 64;
+
+fn state_or_none(class: Option<ClassName>) -> ExprType
+    ensures { result ≡ spec.state_or_none class }
 {
-    match words::state_class(field.type_name.as_slice()) {
+    match class {
         Some(class) => ExprType::State(class),
         None => ExprType::Unknown,
+    }
+}
+
+fn field_type(number: usize, field: &Field) -> ExprType
+    ensures { result ≡ spec.field_type number field.now }
+{
+    let is_reserved = words::is_reserved(field.name.as_slice());
+    let is_of_maker = words::is_text(field.type_name.as_slice(), field.maker.as_slice());
+    if is_reserved || (FIELDS_MAX <= number || !is_of_maker) {
+        ExprType::Unknown
+    } else {
+        state_or_none(words::state_class(field.type_name.as_slice()))
     }
 }
 
@@ -50,6 +68,27 @@ pub fn param_type(param: &Param) -> ExprType
     } else {
         found
     }
+}
+
+fn has_no_type(param: &Param) -> bool
+    ensures { result ≡ not (is_known (spec.param_type param.now)) }
+{
+    !fits::is_known(param_type(param))
+}
+
+fn have_no_type(params: &[Param]) -> bool
+    ensures { result ≡ list_any (λ p. not (is_known (spec.param_type p))) params.now }
+{
+    params.iter().any(has_no_type)
+}
+
+fn is_sound(number: usize, method: &Method) -> bool
+    ensures { result ≡ spec.is_sound number method.now }
+{
+    let is_reserved = words::is_reserved(method.name.as_slice());
+    let is_typed = fits::is_known(result_type(&method.result));
+    !(is_reserved
+        || (METHODS_MAX <= number || (!is_typed || have_no_type(method.params.as_slice()))))
 }
 
 fn is_private(modifier: Modifier) -> bool
@@ -100,7 +139,7 @@ fn add_field(fields: &mut Names<Variable>, field: &Field) -> Result<(), AllocErr
 {
     let variable = Variable {
         declaration: Declaration::Field(fields.len()),
-        found: field_type(field),
+        found: field_type(fields.len(), field),
     };
     fields.add(field.name.as_slice(), variable)
 }
@@ -114,6 +153,7 @@ fn add_method(
 {
     let signature = Signature {
         number: methods.len(),
+        is_sound: is_sound(methods.len(), method),
         kind: kind_of(method),
         result: result_type(&method.result),
         params: param_types(alloc, method.params.as_slice())?,

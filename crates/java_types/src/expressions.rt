@@ -183,6 +183,22 @@ impl Walk {
         }
     }
 
+    fn sound_call(
+        &mut self,
+        at: usize,
+        count: usize,
+        signature: &Signature,
+    ) -> Result<ExprType, AllocError>
+        ensures found { IfOk result (λ t. t ≡ (spec.sound_call at count signature.now self.old).found) }
+        ensures walk { OnOk result (self.new ≡ (spec.sound_call at count signature.now self.old).walk) }
+    {
+        let refused = self.refused_call(signature)?;
+        let miscounted = signature.params.len() != count;
+        self.note(refused, at, 13)?;
+        self.note(miscounted, at, 6)?;
+        Ok(fits::unless(refused || miscounted, signature.result))
+    }
+
     fn own_of(
         &mut self,
         at: usize,
@@ -197,11 +213,11 @@ impl Walk {
             return Ok(ExprType::Unknown);
         };
         self.names.push(Declaration::Method(signature.number))?;
-        let refused = self.refused_call(signature)?;
-        let miscounted = signature.params.len() != count;
-        self.note(refused, at, 13)?;
-        self.note(miscounted, at, 6)?;
-        Ok(fits::unless(refused || miscounted, signature.result))
+        if signature.is_sound {
+            self.sound_call(at, count, signature)
+        } else {
+            Ok(ExprType::Unknown)
+        }
     }
 
     /// The type of a call of a method of the class, whose name comes next.
@@ -268,8 +284,8 @@ fn own_params<'a>(env: &'a Env, name: &[u8]) -> &'a [ExprType]
     ensures { result.now ≡ spec.own_params env.now name.now }
 {
     match env.methods.get(name) {
-        Some(signature) => signature.params.as_slice(),
-        None => &[],
+        Some(signature) if signature.is_sound => signature.params.as_slice(),
+        _ => &[],
     }
 }
 

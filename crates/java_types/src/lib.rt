@@ -18,4 +18,4 @@ mod words;
 
 pub use checking::check;
 pub use error::TypeError;
-pub use laws::{first_is_least, passes_each_token};
+pub use laws::{first_is_least, methods_have_their_signatures, passes_each_token};

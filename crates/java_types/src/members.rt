@@ -4,7 +4,7 @@ ghost use Rattle.std.specs.Prelude.{◌≡◌, OnOk};
 ghost use Rattle.java_types.specs.Members as spec;
 
 use crate::calls::METHODS_MAX;
-use crate::declarations::{param_type, result_type};
+use crate::declarations::{FIELDS_MAX, param_type, result_type};
 use crate::names::Names;
 use crate::statements::{Around, block};
 use crate::walk::{Env, Variable, Walk};
@@ -15,9 +15,6 @@ use java_tree::{
 };
 use sqlite_items::Items;
 use std::alloc::{AllocError, Global};
-
-/// How many fields a class may have.
-const FIELDS_MAX: usize = 64;
 
 /// The names of the fields and methods that stand before.
 #[derive(Drop)]

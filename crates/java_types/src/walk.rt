@@ -33,6 +33,8 @@ pub enum MethodKind {
 #[derive(Drop)]
 pub struct Signature {
     pub number: usize,
+    /// Whether its declaration breaks no rule. Nothing is found of calls of one that breaks one.
+    pub is_sound: bool,
     pub kind: MethodKind,
     pub result: ExprType,
     pub params: Items<ExprType>,
