@@ -2,7 +2,7 @@
 
 use crate::groups::grouped;
 use crate::texts::bytes_of;
-use crate::tokens::{counted, shown};
+use crate::tokens::{counted, placed, shown};
 use early_forms::straight_form;
 use java_flow::{FlowError, flow};
 use java_lexer::{LexError, lex};
@@ -58,8 +58,7 @@ fn flow_of(alloc: Global, text: &str) -> Result<String, Refused> {
 /// Whether a class is of the straight form.
 fn form(alloc: Global, text: &str) -> Result<String, Refused> {
     let class = class_of(alloc, text)?;
-    let is_straight = straight_form(alloc, &class).is_ok_and(|form| form.is_some());
-    let said = if is_straight {
+    let said = if straight_form(alloc, &class)?.is_some() {
         "straight"
     } else {
         "not straight"
@@ -91,10 +90,17 @@ fn groups(alloc: Global, text: &str) -> Result<String, Refused> {
     Ok(grouped(alloc, &class)?)
 }
 
+/// What errors say that no text gives.
+fn memory(alloc: Global) -> Result<String, Refused> {
+    let tokens = format!(in alloc; "{}; {}", LexError::Memory, ParseError::Memory)?;
+    Ok(format!(in alloc; "{tokens}; {}; {}", TypeError::Memory, FlowError::Memory)?)
+}
+
 fn answer(alloc: Global, kind: &str, text: &str) -> Result<String, Refused> {
     match kind {
         "tokens" => Ok(shown(alloc, &tokens_of(alloc, text)?)?),
         "count" => Ok(counted(alloc, &tokens_of(alloc, text)?)?),
+        "places" => Ok(placed(alloc, &class_of(alloc, text)?)?),
         "class" => classified(alloc, text),
         "body" => body(alloc, text),
         "groups" => groups(alloc, text),
@@ -102,6 +108,7 @@ fn answer(alloc: Global, kind: &str, text: &str) -> Result<String, Refused> {
         "flow" => flow_of(alloc, text),
         "form" => form(alloc, text),
         "members" => members(alloc, text),
+        "memory" => memory(alloc),
         _ => Ok(format!(in alloc; "no kind of row: {kind}")?),
     }
 }

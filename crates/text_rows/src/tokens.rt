@@ -1,6 +1,6 @@
 //! Tokens as texts.
 
-use java_tree::{Kind, Token, Tokens};
+use java_tree::{Class, Kind, Token, Tokens};
 use sdg_base::Name;
 use std::alloc::{AllocError, Global};
 
@@ -47,4 +47,14 @@ pub(crate) fn shown(alloc: Global, tokens: &Tokens) -> Result<String, AllocError
 pub(crate) fn counted(alloc: Global, tokens: &Tokens) -> Result<String, AllocError> {
     let count = tokens.list.len();
     format!(in alloc; "{count} tokens, {}:{}", tokens.end.line, tokens.end.column)
+}
+
+/// The place of each token of a class, and how many there are.
+pub(crate) fn placed(alloc: Global, class: &Class) -> Result<String, AllocError> {
+    let mut line = String::new(alloc);
+    for place in class.places.as_slice() {
+        write!(&mut line, "{}:{} ", place.line, place.column)?;
+    }
+    write!(&mut line, "{} places", class.places.len())?;
+    Ok(line)
 }
