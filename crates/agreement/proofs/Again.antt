@@ -11,8 +11,8 @@ use Rattle.sdg_base.specs.declared.port.Port.TheVariants as port
 use Rattle.sdg_base.specs.declared.item.Item.{Item}
 use Rattle.sdg_base.specs.Ports.{same_port}
 use Rattle.java_tree.specs.declared.tree.Class.{Class}
-use Rattle.access_blocks.specs.Members.{fields}
-use Rattle.access_blocks.specs.Source.{CallState, Source, source, outcome}
+use Rattle.early_source.specs.Members.{fields}
+use Rattle.early_source.specs.Source.{CallState, Source, source, outcome}
 use Rattle.placement.specs.declared.event.Event.{Event}
 use Rattle.placement.specs.declared.event.Event.TheVariants as event
 use Rattle.placement.specs.declared.event.Word.{Word}

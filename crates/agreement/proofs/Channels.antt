@@ -5,7 +5,7 @@ use Rattle.std.proofs.lemmas.Option.{slice_get_within}
 use Rattle.sdg_base.specs.declared.port.Port.{Port}
 use Rattle.sdg_base.specs.declared.item.Item.{Item}
 use Rattle.sdg_base.specs.Ports.{same_port}
-use Rattle.state_classes.specs.States.{State}
+use Rattle.early_tables.specs.States.{State}
 use Rattle.task_code.specs.Machine.{Ran, Runs, runs}
 use Rattle.task_code.specs.Progress.{Taken, Progress, ran_or_nothing, outputs_to, progress_with, progress_after}
 use Rattle.cluster.specs.History.{Setup, after_entry}

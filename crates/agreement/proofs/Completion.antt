@@ -9,8 +9,8 @@ use Rattle.sdg_base.specs.declared.port.Port.TheVariants as port
 use Rattle.sdg_base.specs.declared.item.Item.{Item}
 use Rattle.sdg_base.specs.Ports.{same_port}
 use Rattle.java_tree.specs.declared.tree.Class.{Class}
-use Rattle.access_blocks.specs.Members.{fields}
-use Rattle.access_blocks.specs.Source.{CallState, nth}
+use Rattle.early_source.specs.Members.{fields}
+use Rattle.early_source.specs.Source.{CallState, nth}
 use Rattle.cluster.specs.History.{Setup, IsCell, call_of}
 use Rattle.cluster.specs.World.{World, cell, last_step, with_entry, committed, next_result, with_commit, numbers_from, Offer, offers, lowest, pick_of, after_offer, drained_for}
 use Rattle.agreement.specs.Simulation.{Simulation, left}

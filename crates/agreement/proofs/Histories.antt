@@ -7,9 +7,9 @@ use Rattle.sdg_base.specs.declared.port.Port.TheVariants as port
 use Rattle.sdg_base.specs.declared.item.Item.{Item}
 use Rattle.sdg_base.specs.declared.item.Item.TheVariants as item
 use Rattle.java_tree.specs.declared.tree.Class.{Class}
-use Rattle.state_classes.specs.Contents.{entry_at}
-use Rattle.access_blocks.specs.Members.{fields}
-use Rattle.access_blocks.specs.Source.{CallState, Fresh, Source, start, nth, step_from, steps_from}
+use Rattle.early_tables.specs.Contents.{entry_at}
+use Rattle.early_source.specs.Members.{fields}
+use Rattle.early_source.specs.Source.{CallState, Fresh, Source, start, nth, step_from, steps_from}
 use Rattle.task_code.specs.declared.graph.Graph.{Graph}
 use Rattle.task_code.specs.Progress.{Taken, Progress}
 use Rattle.cluster.specs.History.{Setup, Happening, Took, at_start, starts_from, given_at_start, after_entry, after_happening, after_all, Follows, IsHistoryFrom, IsHistory, call_of, shown, steps_of}

@@ -6,11 +6,11 @@ use Rattle.sdg_base.specs.declared.port.Port.TheVariants as port
 use Rattle.sdg_base.specs.declared.item.Item.{Item}
 use Rattle.sdg_base.specs.declared.item.Item.TheVariants as item
 use Rattle.java_tree.specs.declared.tree.Class.{Class}
-use Rattle.state_classes.specs.Entries.{Entries}
-use Rattle.state_classes.specs.Contents.{entry_at}
-use Rattle.state_classes.specs.States.{Nothing, OfTable}
-use Rattle.access_blocks.specs.Members.{fields}
-use Rattle.access_blocks.specs.Source.{CallState, Source, nth}
+use Rattle.early_tables.specs.Entries.{Entries}
+use Rattle.early_tables.specs.Contents.{entry_at}
+use Rattle.early_tables.specs.States.{Nothing, OfTable}
+use Rattle.early_source.specs.Members.{fields}
+use Rattle.early_source.specs.Source.{CallState, Source, nth}
 use Rattle.placement.specs.Slots.{slot}
 use Rattle.task_code.specs.Progress.{Progress}
 use Rattle.cluster.specs.History.{given_at_start, call_of}

@@ -10,8 +10,8 @@ use Rattle.sdg_base.specs.declared.item.Item.{Item}
 use Rattle.sdg_base.specs.Ports.{same_port}
 use Rattle.sdg_base.proofs.Ports.{same_port-refl, same_port-other}
 use Rattle.java_tree.specs.declared.tree.Class.{Class}
-use Rattle.access_blocks.specs.Members.{fields}
-use Rattle.access_blocks.specs.Source.{CallState, Source, start, nth}
+use Rattle.early_source.specs.Members.{fields}
+use Rattle.early_source.specs.Source.{CallState, Source, start, nth}
 use Rattle.placement.specs.declared.event.Event.{Event}
 use Rattle.task_code.specs.Progress.{Taken, Progress}
 use Rattle.cluster.specs.History.{Setup, Happening, Took, at_start, starts_from, starts, given_at_start, after_entry, after_happening, after_all, Follows, IsHistoryFrom, call_of, shown, shown_entry, steps_of}

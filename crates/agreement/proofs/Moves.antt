@@ -8,10 +8,10 @@ use Rattle.sdg_base.specs.declared.port.Port.TheVariants as port
 use Rattle.sdg_base.specs.declared.item.Item.{Item}
 use Rattle.sdg_base.specs.Ports.{same_port}
 use Rattle.java_tree.specs.declared.tree.Class.{Class}
-use Rattle.state_classes.specs.States.{State, Nothing}
-use Rattle.access_blocks.specs.Variables.{Tables}
-use Rattle.access_blocks.specs.Members.{fields}
-use Rattle.access_blocks.specs.Source.{CallState, Source, nth, with_state}
+use Rattle.early_tables.specs.States.{State, Nothing}
+use Rattle.early_source.specs.Variables.{Tables}
+use Rattle.early_source.specs.Members.{fields}
+use Rattle.early_source.specs.Source.{CallState, Source, nth, with_state}
 use Rattle.task_code.specs.Progress.{Progress}
 use Rattle.cluster.specs.History.{call_of}
 use Rattle.agreement.specs.Simulation.{field_names}

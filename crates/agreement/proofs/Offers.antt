@@ -6,7 +6,7 @@ use Rattle.sdg_base.specs.declared.port.Port.{Port}
 use Rattle.sdg_base.specs.declared.port.Port.TheVariants as port
 use Rattle.sdg_base.specs.declared.item.Item.{Item}
 use Rattle.java_tree.specs.declared.tree.Class.{Class}
-use Rattle.access_blocks.specs.Members.{fields}
+use Rattle.early_source.specs.Members.{fields}
 use Rattle.placement.specs.declared.event.Event.TheVariants as event
 use Rattle.placement.specs.declared.event.Word.TheVariants as word
 use Rattle.cluster.specs.History.{Setup, call_of, IsCell}

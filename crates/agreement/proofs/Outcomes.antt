@@ -9,7 +9,7 @@ use Rattle.sdg_base.specs.declared.port.Port.TheVariants as port
 use Rattle.sdg_base.specs.declared.item.Item.{Item}
 use Rattle.sdg_base.specs.declared.item.Item.TheVariants as item
 use Rattle.java_tree.specs.declared.tree.Class.{Class}
-use Rattle.access_blocks.specs.Source.{CallState, Fresh, At, Ended, Source, start, nth, outcome, outcome_in, Explains}
+use Rattle.early_source.specs.Source.{CallState, Fresh, At, Ended, Source, start, nth, outcome, outcome_in, Explains}
 use Rattle.placement.specs.declared.event.Event.{Event}
 use Rattle.placement.specs.declared.event.Event.TheVariants as event
 use Rattle.placement.specs.declared.event.Word.{Word}

@@ -8,8 +8,8 @@ use Rattle.sdg_base.specs.declared.port.Port.TheVariants as port
 use Rattle.sdg_base.specs.declared.item.Item.{Item}
 use Rattle.sdg_base.specs.Ports.{same_port}
 use Rattle.java_tree.specs.declared.tree.Class.{Class}
-use Rattle.state_classes.specs.States.{State}
-use Rattle.access_blocks.specs.Source.{CallState, Source, start, nth, steps_from}
+use Rattle.early_tables.specs.States.{State}
+use Rattle.early_source.specs.Source.{CallState, Source, start, nth, steps_from}
 use Rattle.task_code.specs.Progress.{Progress}
 use Rattle.cluster.specs.History.{Setup, Happening, Took, IsCell, after_happening, after_all, at_start, Follows, HappensAfter, IsHistoryFrom, IsHistory, call_of, shown, steps_of}
 use Rattle.cluster.specs.World.{World, first_world, cell, next_item, entry, with_entry, committed, next_result, with_commit}

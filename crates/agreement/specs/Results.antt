@@ -5,7 +5,7 @@ use Rattle.sdg_base.specs.declared.val.Outcome.{Outcome}
 use Rattle.placement.specs.declared.event.Event.{Event}
 use Rattle.placement.specs.declared.event.Event.TheVariants as event
 use Rattle.java_tree.specs.declared.tree.Class.{Class}
-use Rattle.access_blocks.specs.Source.{Explains}
+use Rattle.early_source.specs.Source.{Explains}
 use Rattle.cluster.specs.History.{Setup, IsCell, steps_of}
 use Rattle.cluster.specs.World.{World, last_step, offers, lowest, results_of, most_events}
 

@@ -8,13 +8,13 @@ use Rattle.sdg_base.specs.declared.item.Item.{Item}
 use Rattle.sdg_base.specs.declared.item.Item.TheVariants as item
 use Rattle.java_tree.specs.declared.tree.Class.{Class}
 use Rattle.java_tree.specs.declared.tree.BlockItem.{BlockItem}
-use Rattle.state_classes.specs.Entries.{Entries}
-use Rattle.state_classes.specs.Contents.{entry_at}
-use Rattle.state_classes.specs.States.{State, Nothing, OfTable}
-use Rattle.access_blocks.specs.Variables.{Variables, Tables}
-use Rattle.access_blocks.specs.Members.{fields, methods}
-use Rattle.access_blocks.specs.Blocks.{Place, run_block}
-use Rattle.access_blocks.specs.Source.{CallState, Fresh, At, Ended, begun, state_of}
+use Rattle.early_tables.specs.Entries.{Entries}
+use Rattle.early_tables.specs.Contents.{entry_at}
+use Rattle.early_tables.specs.States.{State, Nothing, OfTable}
+use Rattle.early_source.specs.Variables.{Variables, Tables}
+use Rattle.early_source.specs.Members.{fields, methods}
+use Rattle.early_source.specs.Blocks.{Place, run_block}
+use Rattle.early_source.specs.Source.{CallState, Fresh, At, Ended, begun, state_of}
 use Rattle.placement.specs.Slots.{slot}
 use Rattle.task_code.specs.declared.graph.Graph.{Graph}
 use Rattle.task_code.specs.Machine.{Runs, runs}

@@ -12,7 +12,7 @@ use Rattle.channels.specs.declared.mark.Mark.{Mark}
 use Rattle.channels.specs.Sent.{trimmed, OutboxUnchanged}
 use Rattle.channels.specs.Outboxes.{outbox_of, SameButAt}
 use Rattle.channels.specs.Marks.{mark_of}
-use Rattle.state_classes.specs.States.{State}
+use Rattle.early_tables.specs.States.{State}
 use Rattle.task_code.specs.declared.graph.Graph.{Graph}
 use Rattle.task_code.specs.Machine.{Runs, runs}
 use Rattle.task_code.specs.Progress.{Taken, Progress, progress_with, progress_after, ran_or_nothing, outputs_to}

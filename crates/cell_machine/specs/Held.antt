@@ -1,5 +1,5 @@
 -- What a cell holds, as a state.
-use Rattle.state_classes.specs.States.{State, Nothing, OfTable}
+use Rattle.early_tables.specs.States.{State, Nothing, OfTable}
 use Rattle.cell_machine.specs.declared.state.CellState.{CellState}
 use Rattle.cell_machine.specs.declared.state.CellState.TheVariants as held
 

@@ -14,7 +14,7 @@ ghost use Rattle.cell_machine.specs.Shows.{Shows};
 use crate::state::CellState;
 use channels::{Marks, Outboxes};
 use sdg_base::{Item, Port};
-use state_classes::Table;
+use early_tables::Table;
 use std::alloc::{AllocError, Global};
 use task_code::{Graph, run_task};
 

@@ -10,7 +10,7 @@ use Rattle.sdg_base.specs.declared.item.Line.TheVariants as line
 use Rattle.sdg_base.specs.declared.item.Note.TheVariants as note
 use Rattle.sdg_base.specs.declared.call.Call.{Call}
 use Rattle.sdg_base.specs.declared.call.Step.{Step}
-use Rattle.state_classes.specs.States.{State}
+use Rattle.early_tables.specs.States.{State}
 use Rattle.placement.specs.declared.event.Header.{Header}
 use Rattle.channels.specs.Marks.{mark_of}
 use Rattle.channels.specs.Outboxes.{outbox_of}

@@ -6,20 +6,20 @@ use Rattle.sdg_base.specs.declared.val.Val.TheVariants as val
 use Rattle.early_forms.specs.declared.straight.Sum.{Sum}
 use Rattle.early_forms.specs.Names.{SumIsKnown}
 use Rattle.early_forms.specs.Trees.{sum_tree, plain}
-use Rattle.state_classes.specs.Entries.{Entries}
-use Rattle.state_classes.specs.Contents.{entry_at, value_at, with_value}
-use Rattle.state_classes.specs.States.{State, OfTable, arity}
-use Rattle.state_classes.specs.declared.method.Method.TheVariants as method
-use Rattle.access_blocks.specs.Variables.{Variables, Tables, named, renewed}
-use Rattle.access_blocks.specs.Expressions.{long_of, cons_if}
-use Rattle.access_blocks.specs.Sites.{Key, LiteralKey, VariableKey, Compound}
-use Rattle.access_blocks.specs.Blocks.{accessed, with_args}
+use Rattle.early_tables.specs.Entries.{Entries}
+use Rattle.early_tables.specs.Contents.{entry_at, value_at, with_value}
+use Rattle.early_tables.specs.States.{State, OfTable, arity}
+use Rattle.early_tables.specs.declared.method.Method.TheVariants as method
+use Rattle.early_source.specs.Variables.{Variables, Tables, named, renewed}
+use Rattle.early_source.specs.Expressions.{long_of, cons_if}
+use Rattle.early_source.specs.Sites.{Key, LiteralKey, VariableKey, Compound}
+use Rattle.early_source.specs.Blocks.{accessed, with_args}
 use Rattle.agreement.specs.Simulation.{entries_in, entry_in, field_names}
 use Rattle.task_code.specs.declared.graph.Instr.{Instr}
 use Rattle.task_code.specs.declared.graph.Instr.TheVariants as instr
 use Rattle.task_code.specs.Machine as machine
 use Rattle.task_code.specs.Machine.{Setting, Runs, run, pushed, key_value, is_own_field, arguments}
-use Rattle.plain_java.specs.Keys.{written_key}
+use Rattle.early_plain.specs.Keys.{written_key}
 use Rattle.early_cutter.specs.Points.{number_in}
 use Rattle.early_cutter.specs.Lowering.{argument_code}
 use Rattle.early_cutter.specs.Values.{long_value}

@@ -19,21 +19,21 @@ use Rattle.early_forms.specs.declared.straight.Ending.{Ending}
 use Rattle.early_forms.specs.declared.straight.Ending.TheVariants as ending
 use Rattle.early_forms.specs.Names.{BodyIsKnown, declared_names, locals}
 use Rattle.early_forms.specs.Trees.{sum_tree, plain, got, return_value, long_local, put_statement, body_tree}
-use Rattle.state_classes.specs.Entries.{Entries}
-use Rattle.state_classes.specs.Contents.{entry_at, value_at, with_value}
-use Rattle.state_classes.specs.States.{State, OfTable}
-use Rattle.state_classes.specs.declared.method.Method.TheVariants as method
-use Rattle.access_blocks.specs.Variables.{Variables, Tables, renewed}
-use Rattle.access_blocks.specs.Expressions.{as_long}
-use Rattle.access_blocks.specs.Sites.{Access, access_of, site_of, same_site, after_declaration}
-use Rattle.access_blocks.specs.Blocks.{accessed, AtEnd, Stop, run_from, run_block, first_of_list, marked_access, finish, finish_with, declared, ended, plainly, plain_value, statement_value, reach}
+use Rattle.early_tables.specs.Entries.{Entries}
+use Rattle.early_tables.specs.Contents.{entry_at, value_at, with_value}
+use Rattle.early_tables.specs.States.{State, OfTable}
+use Rattle.early_tables.specs.declared.method.Method.TheVariants as method
+use Rattle.early_source.specs.Variables.{Variables, Tables, renewed}
+use Rattle.early_source.specs.Expressions.{as_long}
+use Rattle.early_source.specs.Sites.{Access, access_of, site_of, same_site, after_declaration}
+use Rattle.early_source.specs.Blocks.{accessed, AtEnd, Stop, run_from, run_block, first_of_list, marked_access, finish, finish_with, declared, ended, plainly, plain_value, statement_value, reach}
 use Rattle.agreement.specs.Simulation.{entry_in}
 use Rattle.task_code.specs.declared.graph.GraphMethod.{GraphMethod}
 use Rattle.task_code.specs.declared.graph.Instr.{Instr}
 use Rattle.task_code.specs.declared.graph.Instr.TheVariants as instr
 use Rattle.task_code.specs.Machine as machine
 use Rattle.task_code.specs.Machine.{Setting, Runs, run}
-use Rattle.plain_java.specs.Keys.{written_site}
+use Rattle.early_plain.specs.Keys.{written_site}
 use Rattle.early_cutter.specs.Points.{Point, number_in, point_after}
 use Rattle.early_cutter.specs.Sums.{long_code}
 use Rattle.early_cutter.specs.Lowering.{body_code}

@@ -3,7 +3,7 @@ use Rattle.std.proofs.Common.{◌≡◌, refl, ℕ, pos, List, [], ◌∷◌, No
 use Rattle.sdg_base.specs.declared.val.Num.TheVariants as num
 use Rattle.sdg_base.specs.declared.operator.BinOp.TheVariants as bin
 use Rattle.sdg_base.specs.declared.store.ClassName.TheVariants as class_name
-use Rattle.state_classes.specs.declared.method.Method.TheVariants as method
+use Rattle.early_tables.specs.declared.method.Method.TheVariants as method
 use Rattle.task_code.specs.declared.graph.Instr.TheVariants as instr
 use Rattle.task_code.specs.declared.graph.TaskKind.TheVariants as task_kind
 use Rattle.task_code.specs.declared.graph.VarType.TheVariants as var_type

@@ -12,8 +12,8 @@ use Rattle.early_forms.specs.declared.straight.StraightMethod.{StraightMethod}
 use Rattle.early_forms.specs.declared.straight.StraightClass.{StraightClass}
 use Rattle.early_forms.specs.Names.{variables, locals}
 use Rattle.early_forms.specs.Trees.{class_tree, method_tree, table_member, method_member, long_parameter}
-use Rattle.access_blocks.specs.Variables.{named}
-use Rattle.access_blocks.specs.Members.{field_name, method_in, fields, methods, variables_of}
+use Rattle.early_source.specs.Variables.{named}
+use Rattle.early_source.specs.Members.{field_name, method_in, fields, methods, variables_of}
 use Rattle.task_code.specs.declared.graph.VarType.TheVariants as var
 use Rattle.task_code.specs.declared.graph.Task.{Task}
 use Rattle.task_code.specs.declared.graph.GraphMethod.{GraphMethod}
@@ -21,7 +21,7 @@ use Rattle.task_code.specs.Machine.{first_vars}
 use Rattle.early_cutter.specs.Points.{number_in}
 use Rattle.early_cutter.specs.Lowering.{first_point, lowered, lowered_method, lowered_methods, task_behind}
 use Rattle.early_cutter.specs.Cutting.{cut_tasks, method_tasks, tasks_from}
-use Rattle.plain_java.specs.Fits.{IsLong}
+use Rattle.early_plain.specs.Fits.{IsLong}
 use Rattle.early_cutter.specs.Agrees.{Matches}
 use Rattle.early_cutter.proofs.Lists.{get_front, get_behind}
 use Rattle.early_cutter.proofs.Moves.{number_within}

@@ -11,11 +11,11 @@ use Rattle.early_forms.specs.declared.straight.Ending.{Ending}
 use Rattle.early_forms.specs.declared.straight.Ending.TheVariants as ending
 use Rattle.early_forms.specs.Names.{BodyIsKnown, SumIsKnown}
 use Rattle.early_forms.specs.Trees.{sum_tree, plain, got, return_value, long_local, put_statement, body_tree}
-use Rattle.access_blocks.specs.Variables.{Variables, Tables}
-use Rattle.access_blocks.specs.Expressions.{long_of}
-use Rattle.access_blocks.specs.Sites.{Access, Site, access_of, site_of, same_site, is_marked}
-use Rattle.access_blocks.specs.Blocks.{run_from, run_block, first_of_list, marked_access, reach, go_on, key_value}
-use Rattle.plain_java.specs.Keys.{written_site}
+use Rattle.early_source.specs.Variables.{Variables, Tables}
+use Rattle.early_source.specs.Expressions.{long_of}
+use Rattle.early_source.specs.Sites.{Access, Site, access_of, site_of, same_site, is_marked}
+use Rattle.early_source.specs.Blocks.{run_from, run_block, first_of_list, marked_access, reach, go_on, key_value}
+use Rattle.early_plain.specs.Keys.{written_site}
 use Rattle.early_cutter.specs.Agrees.{first_access}
 use Rattle.early_cutter.proofs.Statements.{made, access_of-put, access_of-return, access_of-local, site_of-made}
 

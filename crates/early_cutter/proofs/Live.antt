@@ -8,8 +8,8 @@ use Rattle.sdg_base.specs.declared.val.Val.{Val}
 use Rattle.sdg_base.specs.declared.val.Val.TheVariants as val
 use Rattle.sdg_base.specs.declared.val.Outcome.{Outcome}
 use Rattle.sdg_base.specs.declared.val.Outcome.TheVariants as outcome
-use Rattle.state_classes.specs.declared.method.Method.{Method}
-use Rattle.state_classes.specs.States.{State, arity, call_on}
+use Rattle.early_tables.specs.declared.method.Method.{Method}
+use Rattle.early_tables.specs.States.{State, arity, call_on}
 use Rattle.task_code.specs.declared.graph.Graph.{Graph}
 use Rattle.task_code.specs.declared.graph.Task.{Task}
 use Rattle.task_code.specs.declared.graph.TaskKind.{TaskKind}

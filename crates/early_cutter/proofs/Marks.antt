@@ -10,9 +10,9 @@ use Rattle.early_forms.specs.declared.straight.Statement.{Statement}
 use Rattle.early_forms.specs.declared.straight.Ending.{Ending}
 use Rattle.early_forms.specs.Names.{SumIsKnown}
 use Rattle.early_forms.specs.Trees.{body_tree}
-use Rattle.state_classes.specs.States.{State}
-use Rattle.access_blocks.specs.Variables.{Variables, Tables}
-use Rattle.access_blocks.specs.Blocks.{AtMark, AtEnd, reach}
+use Rattle.early_tables.specs.States.{State}
+use Rattle.early_source.specs.Variables.{Variables, Tables}
+use Rattle.early_source.specs.Blocks.{AtMark, AtEnd, reach}
 use Rattle.placement.specs.Slots.{slot}
 use Rattle.task_code.specs.declared.graph.GraphMethod.{GraphMethod}
 use Rattle.task_code.specs.declared.graph.Instr.{Instr}

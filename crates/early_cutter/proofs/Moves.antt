@@ -9,10 +9,10 @@ use Rattle.std.proofs.lemmas.Cmp.{tied_itself, int_cmp_total}
 use Rattle.std.proofs.lemmas.Map.Lookups.{exact_signed}
 use Rattle.std.proofs.lemmas.Slice.Eq.{bytes_eq-Decides}
 use Rattle.std.proofs.lemmas.Bool.{cases_eq}
-use Rattle.state_classes.specs.Entries.{Entries}
-use Rattle.state_classes.specs.Contents.{entry_at, with_value}
-use Rattle.state_classes.specs.States.{State, Nothing, OfTable}
-use Rattle.access_blocks.specs.Variables.{Tables, named, renewed}
+use Rattle.early_tables.specs.Entries.{Entries}
+use Rattle.early_tables.specs.Contents.{entry_at, with_value}
+use Rattle.early_tables.specs.States.{State, Nothing, OfTable}
+use Rattle.early_source.specs.Variables.{Tables, named, renewed}
 use Rattle.agreement.specs.Simulation.{entries_in, entry_in, field_names, ChangesAt}
 use Rattle.early_cutter.specs.Points.{number_in}
 

@@ -14,13 +14,13 @@ use Rattle.early_forms.specs.declared.straight.Statement.{Statement}
 use Rattle.early_forms.specs.declared.straight.Statement.TheVariants as s
 use Rattle.early_forms.specs.declared.straight.Ending.{Ending}
 use Rattle.early_forms.specs.declared.straight.Ending.TheVariants as ending
-use Rattle.access_blocks.specs.Sites.{Key, LiteralKey, VariableKey, Compound, same_site}
-use Rattle.state_classes.specs.declared.method.Method.TheVariants as method
+use Rattle.early_source.specs.Sites.{Key, LiteralKey, VariableKey, Compound, same_site}
+use Rattle.early_tables.specs.declared.method.Method.TheVariants as method
 use Rattle.task_code.specs.declared.graph.Graph.{Graph}
 use Rattle.task_code.specs.declared.graph.Task.{Task}
 use Rattle.task_code.specs.declared.graph.Instr.{Instr}
 use Rattle.task_code.specs.declared.graph.Instr.TheVariants as instr
-use Rattle.plain_java.specs.Keys.{written_key, written_site}
+use Rattle.early_plain.specs.Keys.{written_key, written_site}
 use Rattle.early_cutter.specs.Points.{Point, number_in, point_after}
 use Rattle.early_cutter.specs.Sums.{type_of, promoted, atom_code, cast_code, plus_code, others_code, long_code}
 use Rattle.early_cutter.specs.Lowering.{mark_code, argument_code, body_code, point_at_end, task_at_end}

@@ -3,9 +3,9 @@ use Rattle.std.proofs.Common.{◌≡◌, ℕ, zero, suc, ◌+◌, ◌<◌, ◌�
 use Rattle.std.specs.List.{AllByRecursion}
 use Rattle.sdg_base.specs.declared.val.Outcome.{Outcome}
 use Rattle.java_tree.specs.declared.tree.Class.{Class}
-use Rattle.access_blocks.specs.Source.{Source, outcome, numbered, Explains}
-use Rattle.access_blocks.specs.Serial.{IsSerial}
-use Rattle.plain_java.specs.Serial.{SerialIsPlain}
+use Rattle.early_source.specs.Source.{Source, outcome, numbered, Explains}
+use Rattle.early_source.specs.Serial.{IsSerial}
+use Rattle.early_plain.specs.Serial.{SerialIsPlain}
 use Rattle.cluster.specs.History.{Setup, steps_of}
 use Rattle.cluster.specs.World.{World, world_of, results_of, numbers_from}
 use Rattle.agreement.specs.Results.{Results, HasResult, RunAgrees}

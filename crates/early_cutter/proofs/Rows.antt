@@ -7,12 +7,12 @@ use Rattle.early_forms.specs.declared.straight.Ending.TheVariants as ending
 use Rattle.early_forms.specs.declared.straight.StraightClass.{StraightClass}
 use Rattle.sdg_base.specs.declared.val.Num.TheVariants as num
 use Rattle.sdg_base.specs.declared.operator.BinOp.TheVariants as bin
-use Rattle.state_classes.specs.declared.method.Method.TheVariants as method
+use Rattle.early_tables.specs.declared.method.Method.TheVariants as method
 use Rattle.sdg_base.specs.declared.val.Val.TheVariants as val
 use Rattle.sdg_base.specs.declared.val.Outcome.TheVariants as outcome
 use Rattle.sdg_base.specs.declared.port.Port.TheVariants as port
 use Rattle.sdg_base.specs.declared.item.Item.TheVariants as item
-use Rattle.state_classes.specs.States.{Nothing, OfTable}
+use Rattle.early_tables.specs.States.{Nothing, OfTable}
 use Rattle.task_code.specs.Machine.{runs}
 use Rattle.task_code.specs.declared.graph.Instr.TheVariants as instr
 use Rattle.task_code.specs.declared.graph.TaskKind.TheVariants as task

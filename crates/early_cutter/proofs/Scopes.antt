@@ -8,7 +8,7 @@ use Rattle.sdg_base.specs.declared.val.Val.{Val}
 use Rattle.sdg_base.specs.declared.val.Val.TheVariants as val
 use Rattle.early_forms.specs.declared.straight.Statement.{Statement}
 use Rattle.early_forms.specs.Names.{AreDistinct, declared_names, locals}
-use Rattle.access_blocks.specs.Variables.{Variables, named}
+use Rattle.early_source.specs.Variables.{Variables, named}
 use Rattle.early_cutter.specs.Points.{number_in}
 use Rattle.early_cutter.specs.Values.{AreLongs}
 use Rattle.early_cutter.specs.Agrees.{Matches, AreNew, LocalsAreNew}

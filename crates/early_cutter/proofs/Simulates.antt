@@ -15,19 +15,19 @@ use Rattle.early_forms.specs.declared.straight.StraightMethod.{StraightMethod}
 use Rattle.early_forms.specs.declared.straight.StraightClass.{StraightClass}
 use Rattle.early_forms.specs.Names.{IsProper, MethodIsProper, variables}
 use Rattle.early_forms.specs.Trees.{class_tree, method_tree, body_tree}
-use Rattle.state_classes.specs.Entries.{Entries}
-use Rattle.state_classes.specs.Contents.{entry_at}
-use Rattle.state_classes.specs.States.{State, Nothing, OfTable}
-use Rattle.access_blocks.specs.Variables.{Variables, Tables}
-use Rattle.access_blocks.specs.Members.{fields, methods, variables_of}
-use Rattle.access_blocks.specs.Blocks.{Stop, run_from, run_block}
-use Rattle.access_blocks.specs.Source.{CallState, Fresh, At, Ended, begun}
+use Rattle.early_tables.specs.Entries.{Entries}
+use Rattle.early_tables.specs.Contents.{entry_at}
+use Rattle.early_tables.specs.States.{State, Nothing, OfTable}
+use Rattle.early_source.specs.Variables.{Variables, Tables}
+use Rattle.early_source.specs.Members.{fields, methods, variables_of}
+use Rattle.early_source.specs.Blocks.{Stop, run_from, run_block}
+use Rattle.early_source.specs.Source.{CallState, Fresh, At, Ended, begun}
 use Rattle.agreement.specs.Simulation.{entry_in, field_names, Begins, Continues, Fitting, Simulation}
 use Rattle.task_code.specs.declared.graph.Task.{Task}
 use Rattle.task_code.specs.Machine.{Setting, Runs, run, runs, start_method, run_task, run_in_method, first_vars, carried_vars}
 use Rattle.early_cutter.specs.Lowering.{first_point, lowered, lowered_method, task_behind, table_field}
 use Rattle.early_cutter.specs.Cutting.{cut_tasks, graph_of, keyed_task}
-use Rattle.plain_java.specs.Fits.{IsLong, CallFits}
+use Rattle.early_plain.specs.Fits.{IsLong, CallFits}
 use Rattle.early_cutter.specs.Agrees.{Agrees, WorkAgrees, StandsAt, unmarked_code}
 use Rattle.early_cutter.proofs.Live.{run_carried}
 use Rattle.early_cutter.proofs.Scopes.{new_from_distinct, distinct_behind}

@@ -21,12 +21,12 @@ use Rattle.early_forms.specs.declared.straight.Atom.{Atom}
 use Rattle.early_forms.specs.declared.straight.Atom.TheVariants.{Literal, Variable}
 use Rattle.early_forms.specs.declared.straight.Sum.{Sum}
 use Rattle.early_forms.specs.Trees.{atom_tree, chain, sum_tree, plain, access, got, return_value, long_local, put_statement}
-use Rattle.access_blocks.specs.Variables.{Variables, Tables}
-use Rattle.access_blocks.specs.Expressions.{as_long}
-use Rattle.access_blocks.specs.Sites.{Access, Site, access_in, expr_access, access_of, statement_access, held_access, site_of}
-use Rattle.access_blocks.specs.Blocks.{Next, finish, finish_statement, declared, ended}
-use Rattle.plain_java.specs.Keys.{written_site}
-use Rattle.plain_java.proofs.SitesOfTrees.{site-written}
+use Rattle.early_source.specs.Variables.{Variables, Tables}
+use Rattle.early_source.specs.Expressions.{as_long}
+use Rattle.early_source.specs.Sites.{Access, Site, access_in, expr_access, access_of, statement_access, held_access, site_of}
+use Rattle.early_source.specs.Blocks.{Next, finish, finish_statement, declared, ended}
+use Rattle.early_plain.specs.Keys.{written_site}
+use Rattle.early_plain.proofs.SitesOfTrees.{site-written}
 
 -- an access of the field, with these arguments
 abbrev pub made : List ℕ → List ℕ → List Expr → Access

@@ -12,17 +12,17 @@ use Rattle.early_forms.specs.declared.straight.Statement.{Statement}
 use Rattle.early_forms.specs.declared.straight.Ending.{Ending}
 use Rattle.early_forms.specs.Names.{SumIsKnown}
 use Rattle.early_forms.specs.Trees.{body_tree}
-use Rattle.state_classes.specs.Entries.{Entries}
-use Rattle.state_classes.specs.Contents.{entry_at}
-use Rattle.state_classes.specs.States.{State, OfTable}
-use Rattle.access_blocks.specs.Variables.{Variables, Tables, named}
-use Rattle.access_blocks.specs.Sites.{Key, LiteralKey, VariableKey, Compound, Site, same_key, same_site, is_key, after_declaration}
-use Rattle.access_blocks.specs.Blocks.{Place, Stop, run_from, run_block}
-use Rattle.access_blocks.specs.Source.{state_of}
+use Rattle.early_tables.specs.Entries.{Entries}
+use Rattle.early_tables.specs.Contents.{entry_at}
+use Rattle.early_tables.specs.States.{State, OfTable}
+use Rattle.early_source.specs.Variables.{Variables, Tables, named}
+use Rattle.early_source.specs.Sites.{Key, LiteralKey, VariableKey, Compound, Site, same_key, same_site, is_key, after_declaration}
+use Rattle.early_source.specs.Blocks.{Place, Stop, run_from, run_block}
+use Rattle.early_source.specs.Source.{state_of}
 use Rattle.agreement.specs.Simulation.{entry_in, field_names, left, Gives}
 use Rattle.task_code.specs.declared.graph.GraphMethod.{GraphMethod}
 use Rattle.task_code.specs.Machine.{Setting, Runs, run}
-use Rattle.plain_java.specs.Keys.{written_key, written_site}
+use Rattle.early_plain.specs.Keys.{written_key, written_site}
 use Rattle.early_cutter.specs.Points.{Point, number_in}
 use Rattle.early_cutter.specs.Lowering.{body_code}
 use Rattle.early_cutter.specs.Values.{AreLongs, long_value, whole_of}

@@ -12,11 +12,11 @@ use Rattle.early_forms.specs.declared.straight.Atom.TheVariants.{Literal, Variab
 use Rattle.early_forms.specs.declared.straight.Sum.{Sum}
 use Rattle.early_forms.specs.Names.{AtomIsKnown, SumIsKnown}
 use Rattle.early_forms.specs.Trees.{atom_tree, sum_tree, plain}
-use Rattle.access_blocks.specs.Variables.{Variables}
-use Rattle.access_blocks.specs.Expressions.{value_of, sum, as_long, long_from, long_of}
+use Rattle.early_source.specs.Variables.{Variables}
+use Rattle.early_source.specs.Expressions.{value_of, sum, as_long, long_from, long_of}
 use Rattle.early_cutter.specs.Sums.{type_of, promoted}
-use Rattle.plain_java.specs.Results.{atom_value}
-use Rattle.plain_java.proofs.Expressions.{added, value_of-Number, value_of-Name, value_of-chain}
+use Rattle.early_plain.specs.Results.{atom_value}
+use Rattle.early_plain.proofs.Expressions.{added, value_of-Number, value_of-Name, value_of-chain}
 use Rattle.early_cutter.specs.Values.{sum_from, sum_value, whole_of, long_value, HasType, AreLongs}
 use Rattle.early_cutter.proofs.SumCode.{sum_typed, type_from}
 

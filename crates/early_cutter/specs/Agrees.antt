@@ -14,16 +14,16 @@ use Rattle.early_forms.specs.declared.straight.Ending.{Ending}
 use Rattle.early_forms.specs.declared.straight.Ending.TheVariants as ending
 use Rattle.early_forms.specs.Names.{declared_names, locals, BodyIsKnown}
 use Rattle.early_forms.specs.Trees.{body_tree}
-use Rattle.access_blocks.specs.Variables.{Variables, named}
-use Rattle.access_blocks.specs.Source.{CallState, Fresh, At, Ended}
-use Rattle.state_classes.specs.declared.method.Method.TheVariants as method
+use Rattle.early_source.specs.Variables.{Variables, named}
+use Rattle.early_source.specs.Source.{CallState, Fresh, At, Ended}
+use Rattle.early_tables.specs.declared.method.Method.TheVariants as method
 use Rattle.placement.specs.Slots.{slot}
 use Rattle.task_code.specs.declared.graph.Instr.{Instr}
 use Rattle.task_code.specs.declared.graph.Instr.TheVariants as instr
 use Rattle.task_code.specs.declared.graph.GraphMethod.{GraphMethod}
 use Rattle.task_code.specs.declared.graph.Graph.{Graph}
 use Rattle.task_code.specs.Machine.{carried}
-use Rattle.plain_java.specs.Keys.{written_key}
+use Rattle.early_plain.specs.Keys.{written_key}
 use Rattle.early_cutter.specs.Points.{Point, number_in, point_after}
 use Rattle.early_cutter.specs.Sums.{long_code}
 use Rattle.early_cutter.specs.Lowering.{argument_code, body_code}

@@ -1,8 +1,8 @@
 -- The flat code of a method of the straight form, with a cut at each mark.
 use Rattle.std.specs.Prelude.{ℕ, ◌+◌, if◌then◌else◌, List, [], ◌∷◌, ◌++◌, length, replicate, Option, Some, None}
 use Rattle.sdg_base.specs.declared.store.ClassName.TheVariants as class_name
-use Rattle.state_classes.specs.declared.method.Method.TheVariants as method
-use Rattle.access_blocks.specs.Sites.{Key, Compound, same_site}
+use Rattle.early_tables.specs.declared.method.Method.TheVariants as method
+use Rattle.early_source.specs.Sites.{Key, Compound, same_site}
 use Rattle.task_code.specs.declared.graph.Instr.{Instr}
 use Rattle.task_code.specs.declared.graph.Instr.TheVariants as instr
 use Rattle.task_code.specs.declared.graph.VarType.{VarType}
@@ -18,7 +18,7 @@ use Rattle.early_forms.specs.declared.straight.Ending.{Ending}
 use Rattle.early_forms.specs.declared.straight.Ending.TheVariants as ending
 use Rattle.early_forms.specs.declared.straight.StraightMethod.{StraightMethod}
 use Rattle.early_forms.specs.Names.{variables}
-use Rattle.plain_java.specs.Keys.{written_key, written_site}
+use Rattle.early_plain.specs.Keys.{written_key, written_site}
 use Rattle.early_cutter.specs.Points.{Point, number_in, point_at, point_after}
 use Rattle.early_cutter.specs.Sums.{long_code}
 

@@ -1,11 +1,11 @@
 -- Where a body stands between two statements: the variables in scope by number, the current site, and the next task.
 use Rattle.std.specs.Prelude.{ℕ, suc, ◌+◌, if◌then◌else◌, List, [], ◌∷◌, ◌++◌, Option, Some}
 use Rattle.std.specs.Str.{bytes_eq}
-use Rattle.access_blocks.specs.Sites.{Site, same_site, after_declaration}
+use Rattle.early_source.specs.Sites.{Site, same_site, after_declaration}
 use Rattle.early_forms.specs.declared.straight.Sum.{Sum}
 use Rattle.early_forms.specs.declared.straight.Statement.{Statement}
 use Rattle.early_forms.specs.declared.straight.Statement.TheVariants.{Get, Set, Put}
-use Rattle.plain_java.specs.Keys.{written_site}
+use Rattle.early_plain.specs.Keys.{written_site}
 
 -- the place of a name in a list, from 0; of a name that is not there the list's length
 abbrev pub number_in : List (List ℕ) → List ℕ → ℕ

@@ -8,9 +8,9 @@ use Rattle.java_tree.specs.declared.tree.Class.{Class}
 use Rattle.early_forms.specs.declared.straight.StraightClass.{StraightClass}
 use Rattle.early_forms.specs.Names.{IsProper}
 use Rattle.early_forms.specs.Trees.{class_tree}
-use Rattle.access_blocks.specs.Serial.{IsSerial}
-use Rattle.access_blocks.specs.Source.{numbered}
-use Rattle.plain_java.specs.Plain.{ArePlain}
+use Rattle.early_source.specs.Serial.{IsSerial}
+use Rattle.early_source.specs.Source.{numbered}
+use Rattle.early_plain.specs.Plain.{ArePlain}
 use Rattle.placement.specs.declared.event.Header.{Header}
 use Rattle.placement.specs.declared.event.Event.{Event}
 use Rattle.task_code.specs.Safe.{IsSafe}
@@ -20,7 +20,7 @@ use Rattle.agreement.specs.Results.{Results, HasResult, RunAgrees, IsForCell, Ar
 use Rattle.agreement.specs.Again.{RunsAgain}
 use Rattle.agreement.specs.Kept.{KeepsItsSteps}
 use Rattle.early_cutter.specs.Cutting.{graph_of}
-use Rattle.plain_java.specs.Fits.{CallFits}
+use Rattle.early_plain.specs.Fits.{CallFits}
 
 -- the graph of the class, its calls, and what the run stands on
 abbrev pub setup_of : StraightClass → List Call → Header → Setup

@@ -7,8 +7,8 @@ use Rattle.sdg_base.specs.declared.val.Num.TheVariants as num
 use Rattle.sdg_base.specs.Operators.{sum_of}
 use Rattle.early_forms.specs.declared.straight.Atom.{Atom}
 use Rattle.early_forms.specs.declared.straight.Sum.{Sum}
-use Rattle.plain_java.specs.Results.{atom_value}
-use Rattle.access_blocks.specs.Variables.{Variables, named}
+use Rattle.early_plain.specs.Results.{atom_value}
+use Rattle.early_source.specs.Variables.{Variables, named}
 
 abbrev pub sum_from : Variables → Val → List Atom → Val
 sum_from variables so_far [] = so_far

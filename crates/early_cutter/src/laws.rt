@@ -6,11 +6,11 @@ ghost use Rattle.early_forms.specs.Names.{IsProper};
 ghost use Rattle.early_forms.specs.Trees.{class_tree};
 ghost use Rattle.agreement.specs.Simulation.{Simulation};
 ghost use Rattle.early_cutter.specs.Cutting.{graph_of};
-ghost use Rattle.plain_java.specs.Fits.{CallFits};
+ghost use Rattle.early_plain.specs.Fits.{CallFits};
 ghost use Rattle.early_cutter.specs.Agrees.{Agrees};
 ghost use Rattle.early_cutter.specs.Runs.{EveryRunAgrees, EveryRunRunsAgain, EveryRunKeepsItsSteps, PlainRunsInTurn, EveryCallIsSafe, SerialRunsArePlain, OrderedRunsArePlain};
 
-use plain_java::serial_is_plain;
+use early_plain::serial_is_plain;
 
 /// Each item does in the graph what one step of the annotated source does, for every number of slots.
 pub fn graph_simulates()

@@ -4,7 +4,7 @@ ghost use Rattle.std.specs.Prelude.{◌≡◌, ◌∷◌, ◌++◌, ◌<◌, ◌
 ghost use Rattle.task_code.specs.declared.graph.VarType.TheVariants as var_type;
 ghost use Rattle.early_forms.specs.Names.{variables};
 ghost use Rattle.early_cutter.specs.Bounds.{SumFits, StatementFits, EndingFits, MethodFits};
-ghost use Rattle.plain_java.specs.Keys.{written_key};
+ghost use Rattle.early_plain.specs.Keys.{written_key};
 ghost use Rattle.early_cutter.specs.Points.{Point, number_in, point_at, point_with, point_after};
 ghost use Rattle.early_cutter.specs.Scopes.{IsAt};
 ghost use Rattle.early_cutter.specs.Lowering.{mark_code, argument_code, key_code, get_code, put_code, statement_code, ending_code, body_code, first_point, lowered, result_type, lowered_method, lowered_methods, task_at_end, task_behind, point_at_end};
@@ -12,10 +12,10 @@ ghost use Rattle.early_cutter.specs.Lowering.{mark_code, argument_code, key_code
 use crate::point::{Here, declare, is_compound, next_number, scope_of, small};
 use crate::sums::add_long;
 use early_forms::{Ending, Statement, StraightMethod, Sum};
-use plain_java::{Site, is_ended, is_same};
+use early_plain::{Site, is_ended, is_same};
 use sdg_base::Name;
 use sqlite_items::Items;
-use state_classes::Method;
+use early_tables::Method;
 use std::alloc::{AllocError, Global};
 use task_code::{GraphMethod, Instr, MethodKind, VarType};
 

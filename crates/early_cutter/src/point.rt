@@ -1,13 +1,13 @@
 //! Where the lowering stands in a body: the numbers of the variables, the current site, the next task.
 
 ghost use Rattle.std.specs.Prelude.{◌≡◌, ◌∷◌, ◌++◌, [], ℕ, List, None, IfOk, OnOk, IsTrue, ◌↔◌, ◌+◌};
-ghost use Rattle.access_blocks.specs.Sites.{Compound};
-ghost use Rattle.plain_java.specs.Keys.{written_key};
+ghost use Rattle.early_source.specs.Sites.{Compound};
+ghost use Rattle.early_plain.specs.Keys.{written_key};
 ghost use Rattle.early_cutter.specs.Points.{number_in};
 ghost use Rattle.early_cutter.specs.Scopes.{Numbers};
 
 use early_forms::Sum;
-use plain_java::Site;
+use early_plain::Site;
 use sdg_base::Name;
 use std::alloc::{AllocError, Global};
 use std::collections::BTreeMap;

@@ -5,24 +5,21 @@ use Rattle.std.specs.Str.{bytes_eq}
 use Rattle.sdg_base.specs.declared.store.ClassName.{ClassName}
 use Rattle.java_tree.specs.declared.tree.Member.{Member}
 use Rattle.java_tree.specs.declared.tree.Member.TheVariants as member
-use Rattle.java_tree.specs.declared.tree.Modifier.{Modifier}
-use Rattle.java_tree.specs.declared.tree.Modifier.TheVariants as modifier
 use Rattle.java_tree.specs.declared.tree.Field.{Field}
 use Rattle.java_tree.specs.declared.tree.Method.{Method}
 use Rattle.java_tree.specs.declared.tree.Param.{Param}
 use Rattle.java_tree.specs.declared.tree.ResultType.{ResultType}
 use Rattle.java_tree.specs.declared.tree.ResultType.TheVariants as result_types
+use Rattle.java_tree.specs.Kinds.{kind_of}
 use Rattle.java_tree.specs.declared.types.ExprType.{ExprType}
 use Rattle.java_tree.specs.declared.types.ExprType.TheVariants.{Unknown, Void, Value, Collection, State}
 use Rattle.java_tree.specs.declared.types.Declaration.TheVariants as declaration
-use Rattle.java_types.specs.declared.walk.MethodKind.{MethodKind}
-use Rattle.java_types.specs.declared.walk.MethodKind.TheVariants.{Entry, Helper, Merge}
 use Rattle.java_types.specs.declared.walk.Signature.{Signature}
 use Rattle.java_types.specs.declared.walk.Variable.{Variable}
 use Rattle.java_types.specs.Names.{with_entry}
 use Rattle.java_types.specs.Fits.{is_known}
 use Rattle.java_types.specs.Walks.{most_fields, most_methods}
-use Rattle.java_types.specs.Words.{state_class, is_reserved}
+use Rattle.java_tree.specs.Words.{state_class, is_reserved}
 use Rattle.java_types.specs.Simples.{declared_type}
 
 abbrev pub state_or_none : Option ClassName → ExprType
@@ -51,15 +48,6 @@ param_type p = if p.is_array then collection_of (declared_type p.type_name) else
 abbrev pub is_sound : ℕ → Method → Bool
 is_sound number m =
     not (is_reserved m.name || (nat_le most_methods number || (not (is_known (result_type m.result)) || list_any (λ p. not (is_known (param_type p))) m.params)))
-
-abbrev pub is_private : Modifier → Bool
-is_private modifier.Public = false
-is_private modifier.Private = true
-is_private modifier.Static = false
-
--- A method with `@Collection` is a merge method, another private one a helper, and every other an entry method.
-abbrev pub kind_of : Method → MethodKind
-kind_of m = if list_any (λ p. p.is_collection) m.params then Merge else (if list_any is_private m.modifiers then Helper else Entry)
 
 abbrev pub Fields : Type 0
 Fields = List (List ℕ × Variable)

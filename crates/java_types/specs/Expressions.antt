@@ -20,15 +20,15 @@ use Rattle.java_types.specs.declared.methods.Params.TheVariants as params
 use Rattle.java_types.specs.declared.methods.Shape.{Shape}
 use Rattle.java_types.specs.declared.walk.Env.{Env}
 use Rattle.java_types.specs.declared.walk.Given.{Given}
-use Rattle.java_types.specs.declared.walk.MethodKind.{MethodKind}
-use Rattle.java_types.specs.declared.walk.MethodKind.TheVariants.{Entry, Helper, Merge}
+use Rattle.java_tree.specs.declared.method_kinds.MethodKind.{MethodKind}
+use Rattle.java_tree.specs.declared.method_kinds.MethodKind.TheVariants.{Entry, Helper, Merge}
 use Rattle.java_types.specs.declared.walk.Signature.{Signature}
 use Rattle.java_types.specs.declared.walk.Walk.{Walk}
 use Rattle.java_types.specs.Fits.{is_known, unless, with_part, item_type, may_be_number, may_be_boolean, may_be_collection, may_be_passed, may_have_length, fits, sort_of, is_operand, are_vectors_compared, misfits_behind, outcome, choice, takes, type_of_num, literal, is_minimum, is_minus, made_type}
 use Rattle.java_types.specs.Methods.{params_of, method_of}
 use Rattle.java_types.specs.Names.{entry_of}
 use Rattle.java_types.specs.Walks.{Typing, Tested, past, past_if, noted, opened, closed, named, used, called}
-use Rattle.java_types.specs.Words.{is_type, is_vector_name}
+use Rattle.java_tree.specs.Words.{is_type, is_vector_name}
 
 -- ---- rules, each for the parts of one expression
 

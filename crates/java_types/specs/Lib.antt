@@ -10,4 +10,4 @@ pub mod Names
 pub mod Simples
 pub mod Statements
 pub mod Walks
-pub mod Words
+

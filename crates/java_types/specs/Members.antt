@@ -19,7 +19,7 @@ use Rattle.java_types.specs.declared.walk.Signature.{Signature}
 use Rattle.java_types.specs.declared.walk.Walk.{Walk}
 use Rattle.java_types.specs.declared.members.Seen.{Seen}
 use Rattle.java_types.specs.Names.{entry_of, with_entry}
-use Rattle.java_types.specs.Words.{state_class, is_reserved, is_type}
+use Rattle.java_tree.specs.Words.{state_class, is_reserved, is_type}
 use Rattle.java_types.specs.Walks.{past, past_if, noted, most_fields, most_methods}
 use Rattle.java_types.specs.Expressions.{past_none}
 use Rattle.java_types.specs.Simples.{typed_name, declared}

@@ -25,7 +25,7 @@ use Rattle.java_types.specs.declared.walk.Walk.{Walk}
 use Rattle.java_types.specs.Fits.{is_known, is_vector, item_type, may_be_number, fits}
 use Rattle.java_types.specs.Names.{entry_of, with_entry}
 use Rattle.java_types.specs.Walks.{Typing, past, past_if, noted, opened, variable, named}
-use Rattle.java_types.specs.Words.{value_type, is_declared, is_reserved}
+use Rattle.java_tree.specs.Words.{value_type, is_declared, is_reserved}
 use Rattle.java_types.specs.Expressions.{Passing, operated, value_walk, call_walk, typed, past_none}
 
 abbrev pub value_or_none : Option ValueType → ExprType

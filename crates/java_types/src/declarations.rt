@@ -10,9 +10,11 @@ ghost use Rattle.java_types.specs.Fits.{is_known};
 use crate::calls::METHODS_MAX;
 use crate::names::Names;
 use crate::simples::declared_type;
-use crate::walk::{Env, MethodKind, Signature, Variable};
-use crate::{fits, words};
-use java_tree::{Class, Declaration, ExprType, Field, Member, Method, Modifier, Param, ResultType};
+use crate::fits;
+use crate::walk::{Env, Signature, Variable};
+use java_tree::{
+    Class, Declaration, ExprType, Field, Member, Method, Param, ResultType, kind_of, words,
+};
 use sdg_base::ClassName;
 use sqlite_items::Items;
 use std::alloc::{AllocError, Global};
@@ -89,39 +91,6 @@ fn is_sound(number: usize, method: &Method) -> bool
     let is_typed = fits::is_known(result_type(&method.result));
     !(is_reserved
         || (METHODS_MAX <= number || (!is_typed || have_no_type(method.params.as_slice()))))
-}
-
-fn is_private(modifier: Modifier) -> bool
-    ensures { result ≡ spec.is_private modifier }
-{
-    match modifier {
-        Modifier::Private => true,
-        Modifier::Public | Modifier::Static => false,
-    }
-}
-
-fn takes_collection(params: &[Param]) -> bool
-    ensures { result ≡ list_any (λ p. p.is_collection) params.now }
-{
-    params.iter().any(|p| p.is_collection)
-}
-
-fn are_private(modifiers: &[Modifier]) -> bool
-    ensures { result ≡ list_any spec.is_private modifiers.now }
-{
-    modifiers.iter().any(|m| is_private(*m))
-}
-
-fn kind_of(method: &Method) -> MethodKind
-    ensures { result ≡ spec.kind_of method.now }
-{
-    if takes_collection(method.params.as_slice()) {
-        MethodKind::Merge
-    } else if are_private(method.modifiers.as_slice()) {
-        MethodKind::Helper
-    } else {
-        MethodKind::Entry
-    }
 }
 
 fn param_types(alloc: Global, params: &[Param]) -> Result<Items<ExprType>, AllocError>

@@ -4,7 +4,7 @@ ghost use Rattle.std.specs.Prelude.{◌≡◌};
 ghost use Rattle.java_types.specs.Fits as spec;
 
 use crate::walk::Given;
-use crate::words::is_text;
+use java_tree::words::is_text;
 use java_tree::{ExprType, ValueType};
 use sdg_base::{BinOp, Num, UnOp};
 

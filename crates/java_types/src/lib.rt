@@ -14,7 +14,6 @@ mod names;
 mod simples;
 mod statements;
 mod walk;
-mod words;
 
 pub use checking::check;
 pub use error::TypeError;

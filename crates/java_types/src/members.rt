@@ -8,7 +8,7 @@ use crate::declarations::{FIELDS_MAX, param_type, result_type};
 use crate::names::Names;
 use crate::statements::{Around, block};
 use crate::walk::{Env, Variable, Walk};
-use crate::words;
+use java_tree::words;
 use java_tree::{
     Class, Declaration, Field, FieldModifier, Import, Member, Method, Param, QualifiedName,
     ResultType,

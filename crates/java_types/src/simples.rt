@@ -6,7 +6,8 @@ ghost use Rattle.java_types.specs.Expressions.{Passing};
 
 use crate::expressions::{Operand, call, value};
 use crate::walk::{Env, Given, Variable, Walk};
-use crate::{fits, words};
+use crate::fits;
+use java_tree::words;
 use java_tree::{
     AssignOp, CallForm, Declaration, Expr, ExprType, Local, Simple, TypeName, Value, ValueType,
 };

@@ -6,7 +6,7 @@ ghost use Rattle.java_types.specs.Walks as spec;
 use crate::calls::{Call, Calls, METHODS_MAX};
 use crate::fits;
 use crate::names::Names;
-use java_tree::{Declaration, ExprType};
+use java_tree::{Declaration, ExprType, MethodKind};
 use sdg_base::Name;
 use sqlite_items::Items;
 use std::alloc::AllocError;
@@ -16,17 +16,6 @@ use std::alloc::AllocError;
 pub struct Variable {
     pub declaration: Declaration,
     pub found: ExprType,
-}
-
-/// How a method may be called.
-#[derive(Clone, Copy)]
-pub enum MethodKind {
-    /// From outside alone.
-    Entry,
-    /// From methods.
-    Helper,
-    /// From methods, on what the instances of a field answer.
-    Merge,
 }
 
 /// What callers see of a method.

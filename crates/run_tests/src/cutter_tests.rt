@@ -15,7 +15,7 @@ fn is_code_of_one_get(graph: &Graph) -> bool {
                     Instr::Turn,
                     Instr::Cut(1),
                     Instr::Load(0),
-                    Instr::Access(0, state_classes::Method::Get),
+                    Instr::Access(0, early_tables::Method::Get),
                     Instr::Return,
                 ]
                 .as_slice()

@@ -2,7 +2,7 @@
 
 use crate::texts::class_of;
 use early_forms::StraightClass;
-use plain_java::{calls_fit, plain};
+use early_plain::{calls_fit, plain};
 use sdg_base::{Call, Calls, Outcome, Val};
 use sqlite_items::Items;
 use std::alloc::{AllocError, Global};

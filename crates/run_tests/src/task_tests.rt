@@ -4,7 +4,7 @@ ghost use Rattle.std.specs.Prelude.{◌≡◌, ℕ, [], ◌∷◌, IfOk, List};
 
 use sdg_base::{BinOp, Item, Name, Num, Outcome, Port, Val, Vals};
 use sqlite_items::Items;
-use state_classes::{Method, Table};
+use early_tables::{Method, Table};
 use std::alloc::{AllocError, Global};
 use std::test::*;
 use task_code::{Graph, GraphMethod, Instr, MethodKind, Out, Task, TaskKind, VarType, run_task};

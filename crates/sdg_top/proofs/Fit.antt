@@ -11,7 +11,7 @@ use Rattle.sdg_base.specs.declared.call.Call.{Call}
 use Rattle.early_forms.specs.declared.straight.StraightMethod.{StraightMethod}
 use Rattle.early_forms.specs.declared.straight.StraightClass.{StraightClass}
 use Rattle.early_forms.specs.Trees.{class_tree}
-use Rattle.plain_java.specs.Fits.{IsLong, CallFits}
+use Rattle.early_plain.specs.Fits.{IsLong, CallFits}
 use Rattle.run_text.specs.declared.entrance.ValueType.TheVariants.{Long}
 use Rattle.run_text.specs.declared.entrance.Entrance.{Entrance}
 use Rattle.run_text.specs.Values.{Fits}

@@ -6,7 +6,7 @@ use Rattle.early_forms.specs.declared.straight.StraightMethod.{StraightMethod}
 use Rattle.early_forms.specs.declared.straight.StraightClass.{StraightClass}
 use Rattle.early_forms.specs.Names.{IsProper}
 use Rattle.early_forms.specs.Trees.{class_tree, method_tree, method_member, table_member, long_parameter}
-use Rattle.access_blocks.specs.Members.{field_name, method_in, fields}
+use Rattle.early_source.specs.Members.{field_name, method_in, fields}
 use Rattle.run_text.specs.declared.entrance.ValueType.TheVariants.{Long}
 use Rattle.run_text.specs.declared.entrance.Entrance.{Entrance}
 use Rattle.sdg_top.specs.Accepted.{value_type_of, entrance_of, entrances_of}

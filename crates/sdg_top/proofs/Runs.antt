@@ -19,10 +19,10 @@ use Rattle.placement.specs.declared.event.Word.{Word}
 use Rattle.early_forms.specs.declared.straight.StraightClass.{StraightClass}
 use Rattle.early_forms.specs.Names.{IsProper}
 use Rattle.early_forms.specs.Trees.{class_tree}
-use Rattle.access_blocks.specs.Members.{fields}
+use Rattle.early_source.specs.Members.{fields}
 use Rattle.early_cutter.specs.Lowering.{table_field}
 use Rattle.early_cutter.specs.Cutting.{graph_of}
-use Rattle.plain_java.specs.Fits.{CallFits}
+use Rattle.early_plain.specs.Fits.{CallFits}
 use Rattle.early_cutter.specs.Runs.{EveryCallIsSafe, EveryRunAgrees, EveryRunRunsAgain, EveryRunKeepsItsSteps, SerialRunsArePlain, PlainRunsInTurn, OrderedRunsArePlain, setup_of}
 use Rattle.run_text.specs.Schedules.{IsInRange, Fits}
 use Rattle.cluster.specs.History.{Setup, Happening, Took, IsCell, call_of, shown, shown_entry, steps_of}

@@ -20,8 +20,8 @@ use Rattle.java_flow.specs.Findings.{findings, Refuses as RefusesFlow}
 use Rattle.early_forms.specs.declared.straight.StraightClass.{StraightClass}
 use Rattle.early_forms.specs.Trees.{class_tree}
 use Rattle.early_forms.specs.Forms.{IsStraightForm}
-use Rattle.access_blocks.specs.Members.{fields, methods}
-use Rattle.access_blocks.specs.Serial.{IsSerial}
+use Rattle.early_source.specs.Members.{fields, methods}
+use Rattle.early_source.specs.Serial.{IsSerial}
 use Rattle.placement.specs.declared.event.Header.{Header}
 use Rattle.placement.specs.declared.event.Schedule.{Schedule}
 use Rattle.run_text.specs.declared.entrance.ValueType.{ValueType}

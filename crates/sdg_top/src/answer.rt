@@ -8,7 +8,7 @@ ghost use Rattle.sdg_base.specs.declared.call.Call.{Call};
 ghost use Rattle.early_forms.specs.declared.straight.StraightClass.{StraightClass as ClassOf};
 ghost use Rattle.early_forms.specs.Trees.{class_tree};
 ghost use Rattle.early_forms.specs.Names.{IsProper};
-ghost use Rattle.plain_java.specs.Fits.{CallFits};
+ghost use Rattle.early_plain.specs.Fits.{CallFits};
 ghost use Rattle.run_text.specs.Calls.{AreCalls};
 ghost use Rattle.sdg_top.specs.Accepted.{entrances_of};
 ghost use Rattle.sdg_top.specs.Due.{DueForSchedule, DueForCalls, DueForTexts, AreValid, IsValidSchedule, IsShort};

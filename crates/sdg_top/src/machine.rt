@@ -3,7 +3,7 @@
 ghost use Rattle.std.specs.Prelude.{◌≡◌, ◌≤◌, ◌-◌, ◌^◌, [], length, min, IfOk, OnOk};
 ghost use Rattle.std.specs.List.{AllByRecursion};
 ghost use Rattle.early_forms.specs.Names.{IsProper};
-ghost use Rattle.plain_java.specs.Fits.{CallFits};
+ghost use Rattle.early_plain.specs.Fits.{CallFits};
 ghost use Rattle.run_text.specs.Schedules.{IsInRange, Fits};
 ghost use Rattle.cluster.specs.History.{Setup, steps_of};
 ghost use Rattle.cluster.specs.World.{World, after_events, words_of, results_of as results, kept};

@@ -3,7 +3,7 @@ use Rattle.std.proofs.Common.{◌≡◌, ℕ, ◌<◌, ◌≤◌, ◌+◌, List,
 use Rattle.std.proofs.lemmas.Bool.{false≢true}
 use Rattle.std.proofs.lemmas.List.{drop_more, drop_all}
 use Rattle.sdg_base.specs.declared.val.Val.{Val}
-use Rattle.state_classes.specs.States.{State}
+use Rattle.early_tables.specs.States.{State}
 use Rattle.task_code.specs.declared.graph.Instr.{Instr}
 use Rattle.task_code.specs.declared.instructions.Step.{Step}
 use Rattle.task_code.specs.Machine.{Setting, Runs, run, perform}

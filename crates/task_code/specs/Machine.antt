@@ -14,8 +14,8 @@ use Rattle.sdg_base.specs.declared.port.Port.TheVariants as port
 use Rattle.sdg_base.specs.declared.item.Item.{Item}
 use Rattle.sdg_base.specs.declared.item.Item.TheVariants as item
 use Rattle.sdg_base.specs.Operators.{sum_of}
-use Rattle.state_classes.specs.declared.method.Method.{Method}
-use Rattle.state_classes.specs.States.{State, arity, call_on}
+use Rattle.early_tables.specs.declared.method.Method.{Method}
+use Rattle.early_tables.specs.States.{State, arity, call_on}
 use Rattle.placement.specs.Slots.{slot}
 use Rattle.task_code.specs.declared.graph.Graph.{Graph}
 use Rattle.task_code.specs.declared.graph.GraphMethod.{GraphMethod}

@@ -4,7 +4,7 @@ use Rattle.std.specs.List.{AllByRecursion}
 use Rattle.sdg_base.specs.declared.port.Port.{Port}
 use Rattle.sdg_base.specs.declared.port.Port.TheVariants as port
 use Rattle.sdg_base.specs.declared.item.Item.{Item}
-use Rattle.state_classes.specs.States.{State, Nothing, OfTable}
+use Rattle.early_tables.specs.States.{State, Nothing, OfTable}
 use Rattle.task_code.specs.declared.graph.Graph.{Graph}
 use Rattle.task_code.specs.Machine.{Ran, runs}
 

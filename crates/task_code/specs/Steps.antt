@@ -6,8 +6,8 @@ use Rattle.sdg_base.specs.declared.operator.BinOp.{BinOp}
 use Rattle.sdg_base.specs.declared.port.Port.{Port}
 use Rattle.sdg_base.specs.declared.port.Port.TheVariants as port
 use Rattle.sdg_base.specs.declared.item.Item.{Item}
-use Rattle.state_classes.specs.declared.method.Method.{Method}
-use Rattle.state_classes.specs.States.{State, arity, call_on}
+use Rattle.early_tables.specs.declared.method.Method.{Method}
+use Rattle.early_tables.specs.States.{State, arity, call_on}
 use Rattle.task_code.specs.declared.graph.Instr.{Instr}
 use Rattle.task_code.specs.declared.out.Out.{Out}
 use Rattle.task_code.specs.declared.out.Out.TheVariants as out

@@ -2,7 +2,7 @@
 
 use sdg_base::{BinOp, ClassName, Name, Num};
 use sqlite_items::Items;
-use state_classes::Method;
+use early_tables::Method;
 
 /// How a field is distributed: in disjoint parts by key, or as instances that may differ.
 #[derive(Clone, Copy, Debug, PartialEq, Eq)]

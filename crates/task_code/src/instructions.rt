@@ -2,7 +2,7 @@
 
 ghost use Rattle.std.specs.Prelude.{◌≡◌, ℕ, ◌∷◌, ◌<◌, IfOk, IsSome, List, OnOk, Some, length, slice_get};
 ghost use Rattle.sdg_base.specs.declared.val.Val.{Val};
-ghost use Rattle.state_classes.specs.States.{State, arity};
+ghost use Rattle.early_tables.specs.States.{State, arity};
 ghost use Rattle.task_code.specs.Machine.{Setting, Rest, operated, casted, key_value, arguments, accessed, pushed_result, cut_to};
 ghost use Rattle.task_code.specs.Steps.{Pushes, Operates, Casts, Stores, CanOperate, CanCast, CanStore, CanAccess, EndsAddressed, IsAddressed, leads, ran};
 
@@ -13,7 +13,7 @@ use crate::variables::carried;
 use placement::slot_of;
 use sdg_base::{BinOp, Item, Num, Outcome, Port, Val, Vals, add, copy_of};
 use sqlite_items::Items;
-use state_classes::{Access, Method};
+use early_tables::{Access, Method};
 use std::alloc::{AllocError, Global};
 
 /// What an instruction leads to: the one behind it, or the end of the task.

@@ -11,7 +11,7 @@ use crate::out::Out;
 use crate::stack::Stack;
 use crate::variables::{carried_vars, first_vars};
 use sdg_base::{Item, Outcome, Port, TURNS_AT_START, Val, Vals};
-use state_classes::Access;
+use early_tables::Access;
 use std::alloc::{AllocError, Global};
 
 /// What instructions work on.

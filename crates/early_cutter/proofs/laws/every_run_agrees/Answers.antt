@@ -1,4 +1,4 @@
-use Rattle.plain_java.specs.Fits.{CallFits}
+use Rattle.early_plain.specs.Fits.{CallFits}
 use Rattle.early_cutter.specs.Agrees.{Agrees}
 use Rattle.early_cutter.specs.Cutting.{graph_of}
 use Rattle.early_cutter.specs.Runs.{setup_of}

@@ -5,7 +5,7 @@ use Rattle.std.specs.Str.Lines.{lines}
 use Rattle.java_tree.specs.declared.tree.Class.{Class}
 use Rattle.early_forms.specs.declared.straight.StraightClass.{StraightClass}
 use Rattle.early_forms.specs.Trees.{class_tree}
-use Rattle.access_blocks.specs.Members.{fields}
+use Rattle.early_source.specs.Members.{fields}
 use Rattle.run_text.specs.Calls.{AreCalls}
 use Rattle.run_text.specs.Schedules.{IsSchedule}
 use Rattle.sdg_top.specs.declared.status.Status.TheVariants as status

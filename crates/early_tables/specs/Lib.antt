@@ -1,0 +1,4 @@
+pub mod Entries
+pub mod Contents
+pub mod Methods
+pub mod States

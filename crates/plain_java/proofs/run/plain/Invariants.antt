@@ -1,5 +1,0 @@
-use Rattle.plain_java.proofs.WholeCalls.{CallsFrom}
-use Rattle.plain_java.proofs.run.plain.Given as goal
-
-abbrev pub invariant-loop-call : goal.invariant-loop-call
-invariant-loop-call l = CallsFrom l.class l.calls l.call-index l.tables l.outcomes

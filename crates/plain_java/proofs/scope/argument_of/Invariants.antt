@@ -1,8 +1,0 @@
-use Rattle.std.proofs.Common.{◌≡◌, drop}
-use Rattle.std.specs.List.{zip}
-use Rattle.access_blocks.specs.Variables.{named}
-use Rattle.plain_java.proofs.scope.argument_of.Given as goal
-
--- the parameters so far have other names
-abbrev pub invariant-loop-at : goal.invariant-loop-at
-invariant-loop-at l = named l.name (zip (drop l.at l.parameters) (drop l.at l.arguments)) ≡ named l.name (zip l.parameters l.arguments)

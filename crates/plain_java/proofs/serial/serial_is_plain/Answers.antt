@@ -1,8 +1,0 @@
-use Rattle.plain_java.proofs.SerialCalls.{first_are_plain, serial_is_plain}
-use Rattle.plain_java.proofs.serial.serial_is_plain.Goals as goal
-
-pub returns-clause-plain : goal.returns-clause-plain
-returns-clause-plain c = serial_is_plain
-
-pub returns-clause-first : goal.returns-clause-first
-returns-clause-first c = first_are_plain

@@ -1,6 +1,0 @@
-use Rattle.std.proofs.Common.{◌≡◌, ◌++◌, drop}
-use Rattle.plain_java.proofs.FieldTables.{no_entries}
-use Rattle.plain_java.proofs.tables.Tables.new.Given as goal
-
-abbrev pub invariant-loop-name : goal.invariant-loop-name
-invariant-loop-name l = l.tables.items ++ no_entries (drop l._name-index l.names) ≡ no_entries l.names

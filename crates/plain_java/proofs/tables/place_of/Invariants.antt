@@ -1,5 +1,0 @@
-use Rattle.plain_java.proofs.FieldTables.{FirstFrom}
-use Rattle.plain_java.proofs.tables.place_of.Given as goal
-
-abbrev pub invariant-loop-at : goal.invariant-loop-at
-invariant-loop-at l = FirstFrom l.names l.name l.at
