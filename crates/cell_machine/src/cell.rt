@@ -13,8 +13,8 @@ ghost use Rattle.cell_machine.specs.Shows.{Shows};
 
 use crate::state::CellState;
 use channels::{Marks, Outboxes};
-use sdg_base::{Item, Port};
 use early_tables::Table;
+use sdg_base::{Item, Port};
 use std::alloc::{AllocError, Global};
 use task_code::{Graph, run_task};
 

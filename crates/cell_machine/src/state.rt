@@ -1,7 +1,7 @@
 //! What a cell holds.
 
-use sdg_base::{Outcome, Vals};
 use early_tables::{Access, Method, Table};
+use sdg_base::{Outcome, Vals};
 use std::alloc::{AllocError, Global};
 
 /// Nothing, as in a cell without a field, or an object of the class of its field.

@@ -13,9 +13,9 @@ use crate::point::{Here, declare, is_compound, next_number, scope_of, small};
 use crate::sums::add_long;
 use early_forms::{Ending, Statement, StraightMethod, Sum};
 use early_plain::{Site, is_ended, is_same};
+use early_tables::Method;
 use sdg_base::Name;
 use sqlite_items::Items;
-use early_tables::Method;
 use std::alloc::{AllocError, Global};
 use task_code::{GraphMethod, Instr, MethodKind, VarType};
 

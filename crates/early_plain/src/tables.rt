@@ -6,8 +6,8 @@ ghost use Rattle.early_source.specs.Variables.{renewed};
 ghost use Rattle.early_plain.specs.Fields.{IsFirst, entries_of};
 ghost use Rattle.early_plain.specs.Scopes.{names_in};
 
-use sdg_base::Name;
 use early_tables::Table;
+use sdg_base::Name;
 use std::alloc::{AllocError, Global};
 use std::marker::Model;
 

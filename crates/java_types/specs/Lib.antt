@@ -10,4 +10,3 @@ pub mod Names
 pub mod Simples
 pub mod Statements
 pub mod Walks
-

@@ -8,9 +8,9 @@ ghost use Rattle.java_types.specs.Check.{env_of};
 ghost use Rattle.java_types.specs.Fits.{is_known};
 
 use crate::calls::METHODS_MAX;
+use crate::fits;
 use crate::names::Names;
 use crate::simples::declared_type;
-use crate::fits;
 use crate::walk::{Env, Signature, Variable};
 use java_tree::{
     Class, Declaration, ExprType, Field, Member, Method, Param, ResultType, kind_of, words,

@@ -7,9 +7,7 @@ ghost use Rattle.java_types.specs.Expressions as spec;
 use crate::fits::{self, BOOLEAN, INT, Sort};
 use crate::methods::{Params, Shape, method_of, params_of};
 use crate::walk::{Env, Given, Signature, Walk};
-use java_tree::MethodKind;
-use java_tree::words;
-use java_tree::{CallForm, Declaration, Expr, ExprType, Value};
+use java_tree::{CallForm, Declaration, Expr, ExprType, MethodKind, Value, words};
 use sdg_base::{BinOp, Num, UnOp};
 use std::alloc::AllocError;
 

@@ -8,10 +8,9 @@ use crate::declarations::{FIELDS_MAX, param_type, result_type};
 use crate::names::Names;
 use crate::statements::{Around, block};
 use crate::walk::{Env, Variable, Walk};
-use java_tree::words;
 use java_tree::{
     Class, Declaration, Field, FieldModifier, Import, Member, Method, Param, QualifiedName,
-    ResultType,
+    ResultType, words,
 };
 use sqlite_items::Items;
 use std::alloc::{AllocError, Global};

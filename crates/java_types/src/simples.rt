@@ -5,11 +5,11 @@ ghost use Rattle.java_types.specs.Simples as spec;
 ghost use Rattle.java_types.specs.Expressions.{Passing};
 
 use crate::expressions::{Operand, call, value};
-use crate::walk::{Env, Given, Variable, Walk};
 use crate::fits;
-use java_tree::words;
+use crate::walk::{Env, Given, Variable, Walk};
 use java_tree::{
     AssignOp, CallForm, Declaration, Expr, ExprType, Local, Simple, TypeName, Value, ValueType,
+    words,
 };
 use sdg_base::{BinOp, Name};
 use std::alloc::AllocError;

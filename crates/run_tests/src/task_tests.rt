@@ -2,9 +2,9 @@
 
 ghost use Rattle.std.specs.Prelude.{◌≡◌, ℕ, [], ◌∷◌, IfOk, List};
 
+use early_tables::{Method, Table};
 use sdg_base::{BinOp, Item, Name, Num, Outcome, Port, Val, Vals};
 use sqlite_items::Items;
-use early_tables::{Method, Table};
 use std::alloc::{AllocError, Global};
 use std::test::*;
 use task_code::{Graph, GraphMethod, Instr, MethodKind, Out, Task, TaskKind, VarType, run_task};

@@ -1,8 +1,8 @@
 //! The stateful dataflow graph of a class: its fields, its methods as flat code, and its tasks.
 
+use early_tables::Method;
 use sdg_base::{BinOp, ClassName, Name, Num};
 use sqlite_items::Items;
-use early_tables::Method;
 
 /// How a field is distributed: in disjoint parts by key, or as instances that may differ.
 #[derive(Clone, Copy, Debug, PartialEq, Eq)]

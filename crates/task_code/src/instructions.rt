@@ -10,10 +10,10 @@ use crate::context::Context;
 use crate::out::Out;
 use crate::stack::Stack;
 use crate::variables::carried;
+use early_tables::{Access, Method};
 use placement::slot_of;
 use sdg_base::{BinOp, Item, Num, Outcome, Port, Val, Vals, add, copy_of};
 use sqlite_items::Items;
-use early_tables::{Access, Method};
 use std::alloc::{AllocError, Global};
 
 /// What an instruction leads to: the one behind it, or the end of the task.

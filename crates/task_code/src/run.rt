@@ -10,8 +10,8 @@ use crate::instructions::{Step, access, binary, cast, cut, ended, load, push_key
 use crate::out::Out;
 use crate::stack::Stack;
 use crate::variables::{carried_vars, first_vars};
-use sdg_base::{Item, Outcome, Port, TURNS_AT_START, Val, Vals};
 use early_tables::Access;
+use sdg_base::{Item, Outcome, Port, TURNS_AT_START, Val, Vals};
 use std::alloc::{AllocError, Global};
 
 /// What instructions work on.
