@@ -1,1 +1,6 @@
+pub mod Arguments
+pub mod Entries
+pub mod Methods
+pub mod Plans
 pub mod Shown
+pub mod States

@@ -1,9 +1,25 @@
 //! The classes that hold state.
 #![tactic(auto)]
 
+mod access;
+mod arguments;
+mod counter;
+mod entries;
+mod held;
+mod method;
+mod plan;
 mod signature;
+mod state_class;
+mod table;
 
+pub use access::Access;
+pub use counter::Counter;
+pub use held::Held;
+pub use method::{Method, is_keyed, method_named};
+pub use plan::Plan;
 pub use signature::{Signature, state_method, vector_method};
+pub use state_class::StateClass;
+pub use table::Table;
 
 #[cfg(test)]
 mod tests;
