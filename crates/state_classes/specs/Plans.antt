@@ -35,9 +35,12 @@ module _ {K : Type 0} where
   on None plan = gives val.Unit
   on (Some args) plan = plan args
 
--- A sum of two `long`s wraps around at 64 bits.
+-- Sums and products of `long`s wrap around at 64 bits.
 abbrev pub sum_of : ℤ → ℤ → ℤ
 sum_of a b = wrap num.Long (a +ℤ b)
+
+abbrev pub product_of : ℤ → ℤ → ℤ
+product_of a b = wrap num.Long (a *ℤ b)
 
 -- ---- Table
 
@@ -56,8 +59,11 @@ abbrev pub element : ℤ → ℤ → Entries MatrixKey → ℤ
 element row column entries = value_at by_row_and_column (row, column) entries
 
 -- Columns are from 0 to 4095.
+abbrev pub is_column : ℤ → Bool
+is_column column = int_le (pos 0) column && int_lt column (pos 4096)
+
 abbrev pub at_column : ℤ → Plan MatrixKey ℤ → Plan MatrixKey ℤ
-at_column column plan = if int_le (pos 0) column && int_lt column (pos 4096) then plan else ends (Throws Index)
+at_column column plan = if is_column column then plan else ends (Throws Index)
 
 -- the elements of a row at the first n columns
 abbrev pub row_of : ℤ → ℕ → Entries MatrixKey → List ℤ

@@ -1,7 +1,7 @@
 //! What a method is to answer and to change, before the change is made.
 
 ghost use Rattle.std.specs.Prelude.{◌≡◌};
-ghost use Rattle.state_classes.specs.Plans.{ends, gives, sets, removes, sum_of};
+ghost use Rattle.state_classes.specs.Plans.{ends, gives, sets, removes, sum_of, product_of};
 
 use sdg_base::{Outcome, Val};
 
@@ -56,4 +56,19 @@ pub(crate) fn sum_of(a: i64, b: i64) -> i64
     ensures { result ≡ sum_of a b }
 {
     a.wrapping_add(b)
+}
+
+/// The product of two `long`s, which wraps around at 64 bits (JLS 15.17.1).
+#[tactic(auto, using(sdg_base::proofs::Machine::on_longs))]
+fn product_of(a: i64, b: i64) -> i64
+    ensures { result ≡ product_of a b }
+{
+    a.wrapping_mul(b)
+}
+
+/// A sum with a product of two `long`s added.
+pub(crate) fn plus_product(sum: &i64, a: &i64, b: &i64) -> i64
+    ensures { result ≡ sum_of sum.now (product_of a.now b.now) }
+{
+    sum_of(*sum, product_of(*a, *b))
 }

@@ -1,0 +1,45 @@
+-- Sums of products over the columns of a row.
+use Rattle.std.proofs.Common.{◌≡◌, ℕ, zero, suc, ◌+◌, ◌<◌, ◌≤◌, ℤ, pos, ◌+ℤ◌, ◌*ℤ◌, List, [], ◌∷◌, ◌++◌, length, take, get_or, zero-add, add-one, refl, ap, sym, ◌∙◌, arith}
+use Rattle.std.proofs.lemmas.Int.{ints, int_wrap-add_left, int_wrap-add_right}
+use Rattle.std.specs.Int.{w64, int_wrap}
+use Rattle.std.proofs.lemmas.List.{length-take-le}
+use Rattle.std.proofs.Math.Seq.{take-suc}
+use Rattle.sdg_base.specs.declared.val.Num.TheVariants as num
+use Rattle.sdg_base.specs.Arithmetic.{wrap}
+use Rattle.sdg_base.proofs.Wrapping.{wrap_is}
+use Rattle.state_classes.specs.Entries.{Entries, MatrixKey}
+use Rattle.state_classes.specs.Plans.{element, weighted, sum_of, product_of}
+
+regroup : (a b c : ℤ) → a +ℤ (b +ℤ c) ≡ a +ℤ b +ℤ c
+regroup a b c = omega (arith, ints)
+
+module _ (row : ℤ) (es : Entries MatrixKey) where
+  pub weighted-push : (column : ℕ) (v : List ℤ) (x : ℤ) → weighted row column (v ++ x ∷ []) es ≡ weighted row column v es +ℤ (element row (pos (column + length v)) es *ℤ x)
+  weighted-push column [] x = grind (arith, ints)
+  weighted-push column (y ∷ v) x =
+      let e : column + 1 + length v ≡ column + suc (length v) = omega arith in
+      let h = weighted-push (column + 1) v x ∙ ap (λ n. weighted row (column + 1) v es +ℤ (element row (pos n) es *ℤ x)) e in
+      ap (λ z. (element row (pos column) es *ℤ y) +ℤ z) h ∙ regroup (element row (pos column) es *ℤ y) (weighted row (column + 1) v es) (element row (pos (column + suc (length v))) es *ℤ x)
+
+wrap-left : (a b : ℤ) → wrap num.Long (wrap num.Long a +ℤ b) ≡ wrap num.Long (a +ℤ b)
+wrap-left a b = wrap_is num.Long (wrap num.Long a +ℤ b) ∙ ap (λ z. int_wrap w64 (z +ℤ b)) (wrap_is num.Long a) ∙ int_wrap-add_left w64 a b ∙ sym (wrap_is num.Long (a +ℤ b))
+
+wrap-right : (a b : ℤ) → wrap num.Long (a +ℤ wrap num.Long b) ≡ wrap num.Long (a +ℤ b)
+wrap-right a b = wrap_is num.Long (a +ℤ wrap num.Long b) ∙ ap (λ z. int_wrap w64 (a +ℤ z)) (wrap_is num.Long b) ∙ int_wrap-add_right w64 a b ∙ sym (wrap_is num.Long (a +ℤ b))
+
+-- a product added to a sum that wrapped around on the way
+pub sum-step : (a e x : ℤ) → sum_of (wrap num.Long a) (product_of e x) ≡ wrap num.Long (a +ℤ (e *ℤ x))
+sum-step a e x = wrap-left a (product_of e x) ∙ wrap-right a (e *ℤ x)
+
+pub wrap-zero : pos 0 ≡ wrap num.Long (pos 0)
+unfolding wrap
+wrap-zero = refl
+
+-- one column more of a row's sum
+pub row-step : (row : ℤ) (es : Entries MatrixKey) (v : List ℤ) (at : ℕ) → at < length v → sum_of (wrap num.Long (weighted row 0 (take at v) es)) (product_of (element row (pos at) es) (get_or v at (pos 0))) ≡ wrap num.Long (weighted row 0 (take (at + 1) v) es)
+row-step row es v at h =
+    let x = get_or v at (pos 0) in
+    let n : 0 + length (take at v) ≡ at = zero-add (length (take at v)) ∙ length-take-le at v (omega arith) in
+    let more : take (at + 1) v ≡ take at v ++ x ∷ [] = ap (λ n. take n v) (add-one at) ∙ take-suc v at (pos 0) h in
+    sum-step (weighted row 0 (take at v) es) (element row (pos at) es) x
+    ∙ sym (ap (λ w. wrap num.Long (weighted row 0 w es)) more ∙ ap (wrap num.Long) (weighted-push row es 0 (take at v) x ∙ ap (λ n. weighted row 0 (take at v) es +ℤ (element row (pos n) es *ℤ x)) n))
