@@ -1,6 +1,7 @@
 pub mod Arguments
 pub mod Entries
 pub mod Methods
+pub mod Objects
 pub mod Plans
 pub mod Shown
 pub mod States

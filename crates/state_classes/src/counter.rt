@@ -44,6 +44,7 @@ impl Held for Counter {
     ghost use Rattle.std.specs.Prelude.{[], ◌∷◌};
 
     type Key = u8;
+
     type Value = i64;
 
     ghost entries = { λ c. (0, c) ∷ [] };

@@ -30,7 +30,10 @@ fn least<K: Ord + Copy>(entries: &BTreeMap<K, i64>) -> Option<K>
 fn least_above<K: Ord + Copy>(entries: &BTreeMap<K, i64>, key: K) -> Option<K>
     ensures { result ≡ key_after K.cmp (Some key) entries.now.entries }
 {
-    match entries.range((Bound::Excluded(key), Bound::Unbounded)).next() {
+    match entries
+        .range((Bound::Excluded(key), Bound::Unbounded))
+        .next()
+    {
         Some((key, _)) => Some(*key),
         None => None,
     }

@@ -10,6 +10,7 @@ ghost use Rattle.state_classes.specs.Entries.{entry_at, key_after};
 /// key order.
 pub trait Held {
     type Key: Ord;
+
     type Value;
 
     /// The entries in rising key order.

@@ -2,18 +2,21 @@
 #![tactic(auto)]
 
 mod access;
+mod any_state;
 mod arguments;
 mod counter;
 mod entries;
 mod held;
 mod matrix;
 mod method;
+mod object;
 mod plan;
 mod signature;
 mod state_class;
 mod table;
 
 pub use access::Access;
+pub use any_state::AnyState;
 pub use counter::Counter;
 pub use held::Held;
 pub use matrix::Matrix;

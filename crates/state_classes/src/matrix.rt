@@ -49,6 +49,7 @@ impl Matrix {
 
 impl Held for Matrix {
     type Key = (i64, i64);
+
     type Value = i64;
 
     ghost entries = { λ m. m };

@@ -45,6 +45,7 @@ impl Table {
 
 impl Held for Table {
     type Key = i64;
+
     type Value = i64;
 
     ghost entries = { λ t. t };

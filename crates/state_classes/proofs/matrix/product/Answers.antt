@@ -13,7 +13,7 @@ loop-row-preserved g c =
     let es = g.H.Held.entries c.args.held.now in
     let sum : ℤ → ℤ = λ row. wrap num.Long (weighted row 0 c.args.v.now es) in
     let value : to_z w64 (of_z w64 c.row_sum.result) ≡ sum (pos at) =
-        to_z-of_z w64 c.row_sum.result (record { sfits = c.row_sum.type_inv }) ∙ c.row_sum.ensures ∙ ap sum (to_z_pos w64 at under) in
+    to_z-of_z w64 c.row_sum.result (record { sfits = c.row_sum.type_inv }) ∙ c.row_sum.ensures ∙ ap sum (to_z_pos w64 at under) in
     c.in_ok-push.ensures.ok
     ∙ (λ i. c.loop-row.invariant i ++ value i ∷ [])
     ∙ sym (map-range_with_len_more (λ row. sum (pos row)) 0 at at (zero-add at))

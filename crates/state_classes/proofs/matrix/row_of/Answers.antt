@@ -11,7 +11,7 @@ loop-column-preserved g c =
     let es = g.H.Held.entries c.args.held.now in
     let row = to_z w64 (of_z w64 c.args.row) in
     let value : to_z w64 (of_z w64 c.element.result) ≡ element row (pos at) es =
-        to_z-of_z w64 c.element.result (record { sfits = c.element.type_inv }) ∙ c.element.ensures ∙ ap (λ z. element row z es) (to_z_pos w64 at under) in
+    to_z-of_z w64 c.element.result (record { sfits = c.element.type_inv }) ∙ c.element.ensures ∙ ap (λ z. element row z es) (to_z_pos w64 at under) in
     c.in_ok-push.ensures.ok
     ∙ (λ i. c.loop-column.invariant i ++ value i ∷ [])
     ∙ sym (map-range_with_len_more (λ column. element row (pos column) es) 0 at at (zero-add at))

@@ -19,7 +19,7 @@ loop-column-preserved g c =
     let es = g.H.Held.entries c.args.held.now in
     let row = to_z w64 (of_z w64 c.args.row) in
     let value : to_z w64 (of_z w64 c.element-element.result) ≡ element row (pos at) es =
-        to_z-of_z w64 c.element-element.result (record { sfits = c.element-element.type_inv }) ∙ c.element-element.ensures ∙ ap (λ z. element row z es) (to_z_pos w64 at under) in
+    to_z-of_z w64 c.element-element.result (record { sfits = c.element-element.type_inv }) ∙ c.element-element.ensures ∙ ap (λ z. element row z es) (to_z_pos w64 at under) in
     to_z-of_z w64 c.plus_product-sum.result (record { sfits = c.plus_product-sum.type_inv })
     ∙ c.plus_product-sum.ensures
     ∙ (λ i. sum_of (c.loop-column.invariant i) (product_of (value i) (get_or c.args.v.now at (pos 0))))
