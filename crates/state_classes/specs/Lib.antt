@@ -1,5 +1,6 @@
 pub mod Arguments
 pub mod Entries
+pub mod Laws
 pub mod Methods
 pub mod Objects
 pub mod Plans

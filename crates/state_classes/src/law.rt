@@ -1,0 +1,16 @@
+//! What holds of each call of a keyed method.
+
+ghost use Rattle.std.specs.Ordering.{int_cmp};
+ghost use Rattle.state_classes.specs.Entries.{by_row_and_column};
+ghost use Rattle.state_classes.specs.Laws.{TableCallsKeepToTheirPart, MatrixCallsKeepToTheirPart, OthersStay};
+
+/// A keyed call depends on the part of its key alone, and changes nothing else: the entry of a
+/// table's key, or the entries of a matrix's row. So the parts of a partitioned field together are
+/// the whole field. It does nothing when it runs.
+pub fn keyed_calls_keep_to_their_part()
+    ensures table { TableCallsKeepToTheirPart }
+    ensures matrix { MatrixCallsKeepToTheirPart }
+    ensures other_keys { OthersStay int_cmp }
+    ensures other_elements { OthersStay by_row_and_column }
+{
+}
