@@ -1,0 +1,4 @@
+mod Earliest
+mod Firsts
+mod Lists
+mod Sizes

@@ -1,0 +1,10 @@
+pub mod Accesses
+pub mod Check
+pub mod Environment
+pub mod Expressions
+pub mod Kinds
+pub mod Members
+pub mod Positions
+pub mod Simples
+pub mod Statements
+pub mod Walks

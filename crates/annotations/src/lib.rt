@@ -1,0 +1,20 @@
+//! Annotations and the rules on them: how each field holds its state, and where each access to state goes.
+#![tactic(auto)]
+
+mod accesses;
+mod checking;
+mod class;
+mod environment;
+mod error;
+mod expressions;
+mod members;
+mod position;
+mod simples;
+mod site;
+mod statements;
+mod walk;
+
+pub use checking::annotated;
+pub use class::Annotated;
+pub use error::AnnotError;
+pub use site::{FieldKind, Key, Kinds, Reach, Site, Sites};
