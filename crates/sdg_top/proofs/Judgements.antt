@@ -14,13 +14,14 @@ use Rattle.java_types.specs.declared.checking.Refused.{Refused}
 use Rattle.java_types.specs.Check.{findings_of, IsRefusal}
 use Rattle.java_flow.specs.declared.finding.Finding.{Finding as FlowFinding}
 use Rattle.java_flow.specs.Findings.{findings}
+use Rattle.annotations.specs.declared.checking.Refused.{Refused as RefusedAnnotation}
 use Rattle.early_forms.specs.declared.straight.StraightClass.{StraightClass}
 use Rattle.early_forms.specs.Trees.{class_tree}
 use Rattle.early_forms.specs.Names.{IsProper}
 use Rattle.sdg_top.specs.declared.accept.Phase.TheVariants as phase
 use Rattle.sdg_top.specs.declared.accept.Judgement.{Judgement}
 use Rattle.sdg_top.specs.declared.accept.Judgement.TheVariants.{Takes, Refuses}
-use Rattle.sdg_top.specs.Accepted.{Text, IsClassText, IsOnlyClass, IsAccepted, IsRefused, AtByte, AtNumber, AtComment, NoSyntax, AtType, AtUnreachable, AtMissingReturn, AtUnassigned, NoForm}
+use Rattle.sdg_top.specs.Accepted.{Text, IsClassText, IsOnlyClass, IsAccepted, IsRefused, AtByte, AtNumber, AtComment, NoSyntax, AtType, AtUnreachable, AtMissingReturn, AtUnassigned, AtAnnotation, NoForm, annotation_findings}
 use Rattle.sdg_top.specs.Acceptance.{Judges, IsTaken, RefusesAt, HasTokens, JudgesTree, JudgesOnly, JudgesTokens}
 
 -- ---- a tree and its tokens
@@ -31,6 +32,7 @@ tree_judged tokens tree (Refuses (phase.Type rule) at) has only h = record { tre
 tree_judged tokens tree (Refuses phase.Unreachable at) has only h = record { tree = tree; has = has; only = only; judges = h }
 tree_judged tokens tree (Refuses phase.MissingReturn at) has only h = record { tree = tree; has = has; only = only; judges = h }
 tree_judged tokens tree (Refuses phase.Unassigned at) has only h = record { tree = tree; has = has; only = only; judges = h }
+tree_judged tokens tree (Refuses (phase.Annotation rule) at) has only h = record { tree = tree; has = has; only = only; judges = h }
 tree_judged tokens tree (Refuses phase.Form at) has only h = record { tree = tree; has = has; only = only; judges = h }
 tree_judged tokens tree (Refuses phase.Byte at) has only h = absurd h
 tree_judged tokens tree (Refuses phase.Number at) has only h = absurd h
@@ -70,6 +72,8 @@ tokens_judged text tokens end (Refuses phase.MissingReturn at) spelled only h =
     let is = only_text text tokens end (Refuses phase.MissingReturn at) spelled only h in AtMissingReturn h.tree at is.0 is.1 h.judges.0 h.judges.1
 tokens_judged text tokens end (Refuses phase.Unassigned at) spelled only h =
     let is = only_text text tokens end (Refuses phase.Unassigned at) spelled only h in AtUnassigned h.tree at is.0 is.1 h.judges.0 h.judges.1
+tokens_judged text tokens end (Refuses (phase.Annotation rule) at) spelled only h =
+    let is = only_text text tokens end (Refuses (phase.Annotation rule) at) spelled only h in AtAnnotation h.tree rule at is.0 is.1 h.judges.0 h.judges.1 h.judges.2
 tokens_judged text tokens end (Refuses phase.Form at) spelled only h =
     let is = only_text text tokens end (Refuses phase.Form at) spelled only h in
     at_first text (codes "form") at h.judges.0 (NoForm h.tree is.0 is.1 h.judges.1 h.judges.2)
@@ -87,6 +91,9 @@ no_finding tree rule at none refused =
 no_flow : (tree : Class) (f : FlowFinding) → findings tree ≡ [] → Contains (findings tree) f → ⊥
 no_flow tree f none has = let P : List FlowFinding → Type 0 = λ all. Contains all f in let e : P [] = subst P none has in omega (arith, e.1)
 
+no_annotation : (tree : Class) (f : RefusedAnnotation) → annotation_findings tree ≡ [] → Contains (annotation_findings tree) f → ⊥
+no_annotation tree f none has = let P : List RefusedAnnotation → Type 0 = λ all. Contains all f in let e : P [] = subst P none has in omega (arith, e.1)
+
 -- the text of an accepted class of the form is taken
 pub tokens_taken : (text : Text) (tokens : List Token) (class : StraightClass) (j : Judgement) → AreOnlyTokens text tokens → IsClassText text (class_tree class) → IsProper class → IsAccepted (class_tree class) → JudgesTokens tokens j → IsTaken class j
 tokens_taken text tokens class (Takes c) only is proper accepted h = sym h.judges.0 ∙ sym (h.only (class_tree class) (has_tokens text tokens (class_tree class) only is))
@@ -98,6 +105,8 @@ tokens_taken text tokens class (Refuses phase.MissingReturn at) only is proper a
     let same = subst IsAccepted (h.only (class_tree class) (has_tokens text tokens (class_tree class) only is)) accepted in no_flow h.tree _ same.flows h.judges.1.is_one
 tokens_taken text tokens class (Refuses phase.Unassigned at) only is proper accepted h =
     let same = subst IsAccepted (h.only (class_tree class) (has_tokens text tokens (class_tree class) only is)) accepted in no_flow h.tree _ same.flows h.judges.1.is_one
+tokens_taken text tokens class (Refuses (phase.Annotation rule) at) only is proper accepted h =
+    let same = subst IsAccepted (h.only (class_tree class) (has_tokens text tokens (class_tree class) only is)) accepted in no_annotation h.tree _ same.annotated h.judges.2.is_one
 tokens_taken text tokens class (Refuses phase.Form at) only is proper accepted h =
     h.judges.2 (class, sym (h.only (class_tree class) (has_tokens text tokens (class_tree class) only is)), proper)
 tokens_taken text tokens class (Refuses phase.Syntax at) only is proper accepted (e, none) = none (class_tree class) (has_tokens text tokens (class_tree class) only is)

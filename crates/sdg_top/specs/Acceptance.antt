@@ -12,6 +12,8 @@ use Rattle.java_types.specs.declared.error.TypeError.TheVariants.{Rule}
 use Rattle.java_types.specs.Check.{findings_of, IsRefusal}
 use Rattle.java_flow.specs.declared.error.FlowError.TheVariants.{Unreachable, MissingReturn, Unassigned}
 use Rattle.java_flow.specs.Findings.{findings, Refuses as RefusesFlow}
+use Rattle.annotations.specs.declared.error.AnnotError.TheVariants.{Rule as AnnotationRule}
+use Rattle.annotations.specs.Check.{Refuses as RefusesAnnotation}
 use Rattle.early_forms.specs.declared.straight.StraightClass.{StraightClass}
 use Rattle.early_forms.specs.Trees.{class_tree}
 use Rattle.early_forms.specs.Names.{IsProper}
@@ -20,7 +22,7 @@ use Rattle.sdg_top.specs.declared.accept.Phase.{Phase}
 use Rattle.sdg_top.specs.declared.accept.Phase.TheVariants as phase
 use Rattle.sdg_top.specs.declared.accept.Judgement.{Judgement}
 use Rattle.sdg_top.specs.declared.accept.Judgement.TheVariants.{Takes, Refuses}
-use Rattle.sdg_top.specs.Accepted.{Text, IsClassText, IsOnlyClass, IsAccepted, IsRefused, type_phase}
+use Rattle.sdg_top.specs.Accepted.{Text, IsClassText, IsOnlyClass, IsAccepted, IsRefused, type_phase, annotation_phase, annotation_findings}
 
 abbrev pub phase_text : Phase → Text
 phase_text phase.Byte = codes "byte"
@@ -31,6 +33,7 @@ phase_text (phase.Type rule) = type_phase rule
 phase_text phase.Unreachable = codes "flow 1"
 phase_text phase.MissingReturn = codes "flow 2"
 phase_text phase.Unassigned = codes "flow 3"
+phase_text (phase.Annotation rule) = annotation_phase rule
 phase_text phase.Form = codes "form"
 
 -- the class is the one that a text writes, accepted and of the form; or the text is refused
@@ -66,6 +69,7 @@ JudgesTree tree (Refuses (phase.Type rule) at) = IsRefusal tree (Rule rule at)
 JudgesTree tree (Refuses phase.Unreachable at) = (findings_of tree ≡ []) × RefusesFlow (findings tree) (Unreachable at)
 JudgesTree tree (Refuses phase.MissingReturn at) = (findings_of tree ≡ []) × RefusesFlow (findings tree) (MissingReturn at)
 JudgesTree tree (Refuses phase.Unassigned at) = (findings_of tree ≡ []) × RefusesFlow (findings tree) (Unassigned at)
+JudgesTree tree (Refuses (phase.Annotation rule) at) = (findings_of tree ≡ []) × (findings tree ≡ []) × RefusesAnnotation (annotation_findings tree) (AnnotationRule rule at)
 JudgesTree tree (Refuses phase.Form at) = (at ≡ first_place) × IsAccepted tree × (IsStraightForm tree → ⊥)
 JudgesTree tree (Refuses _ at) = ⊥
 

@@ -6,6 +6,7 @@ use Rattle.java_tree.specs.declared.token.Token.{Token}
 use Rattle.java_tree.specs.declared.tree.Class.{Class}
 use Rattle.java_tree.specs.declared.tree.Method.{Method}
 use Rattle.java_tree.specs.declared.tree.TypeName.{TypeName}
+use Rattle.java_tree.specs.declared.types.Typed.{Typed}
 use Rattle.java_tree.specs.declared.tree.TypeName.TheVariants as type_name
 use Rattle.java_tree.specs.Tokens.{tokens_of}
 use Rattle.java_tree.specs.Placed.{IsWellPlaced}
@@ -14,9 +15,12 @@ use Rattle.java_lexer.specs.declared.lexer.LexError.TheVariants.{BadByte, BadNum
 use Rattle.java_lexer.specs.Places.{first_place}
 use Rattle.java_lexer.specs.Spelling.{Spells, Refuses}
 use Rattle.java_types.specs.declared.error.TypeError.TheVariants.{Rule}
-use Rattle.java_types.specs.Check.{findings_of, IsRefusal}
+use Rattle.java_types.specs.Check.{findings_of, types_of, IsRefusal}
 use Rattle.java_flow.specs.declared.error.FlowError.TheVariants.{Unreachable, MissingReturn, Unassigned}
 use Rattle.java_flow.specs.Findings.{findings, Refuses as RefusesFlow}
+use Rattle.annotations.specs.declared.checking.Refused.{Refused as RefusedAnnotation}
+use Rattle.annotations.specs.declared.error.AnnotError.TheVariants.{Rule as AnnotationRule}
+use Rattle.annotations.specs.Check.{findings_of as findings_of_annotations, Refuses as RefusesAnnotation}
 use Rattle.early_forms.specs.declared.straight.StraightClass.{StraightClass}
 use Rattle.early_forms.specs.Trees.{class_tree}
 use Rattle.early_forms.specs.Forms.{IsStraightForm}
@@ -53,14 +57,25 @@ pub record IsClassText (text : Text) (class : Class) : Type 0 where
 abbrev pub IsOnlyClass : Text → Class → Type 0
 IsOnlyClass text class = (other : Class) → IsClassText text other → other ≡ class
 
--- no rule on types has a finding, and none on the flow of statements
+abbrev pub typed_of : Class → Typed
+typed_of class = record { class = class; types = types_of class }
+
+-- each rule on annotations that the class breaks, with its types
+abbrev pub annotation_findings : Class → List RefusedAnnotation
+annotation_findings class = findings_of_annotations (typed_of class)
+
+-- no rule on types has a finding, and none on the flow of statements and on annotations
 pub record IsAccepted (class : Class) : Type 0 where
   pub typed : findings_of class ≡ []
   pub flows : findings class ≡ []
+  pub annotated : annotation_findings class ≡ []
 
 -- a rule on types by its number
 abbrev pub type_phase : ℕ → Text
 type_phase rule = codes "type " ++ decimal rule
+
+abbrev pub annotation_phase : ℕ → Text
+annotation_phase rule = codes "annotation " ++ decimal rule
 
 -- Why a class text is refused: the first phase that finds it wrong, and where. Syntax and form name the first place of a text.
 pub data IsRefused (text : Text) : Text → Place → Type 0 where
@@ -79,6 +94,9 @@ pub data IsRefused (text : Text) : Text → Place → Type 0 where
   AtUnreachable : (class : Class) (at : Place) → IsClassText text class → IsOnlyClass text class → findings_of class ≡ [] → RefusesFlow (findings class) (Unreachable at) → IsRefused text (codes "flow 1") at
   AtMissingReturn : (class : Class) (at : Place) → IsClassText text class → IsOnlyClass text class → findings_of class ≡ [] → RefusesFlow (findings class) (MissingReturn at) → IsRefused text (codes "flow 2") at
   AtUnassigned : (class : Class) (at : Place) → IsClassText text class → IsOnlyClass text class → findings_of class ≡ [] → RefusesFlow (findings class) (Unassigned at) → IsRefused text (codes "flow 3") at
+  -- one that breaks no rule on types and on the flow of statements, and this rule on annotations first
+  AtAnnotation : (class : Class) (rule : ℕ) (at : Place) → IsClassText text class → IsOnlyClass text class → findings_of class ≡ [] → findings class ≡ [] → RefusesAnnotation (annotation_findings class) (AnnotationRule rule at)
+      → IsRefused text (annotation_phase rule) at
   -- one that is accepted, but not of the form that runs
   NoForm : (class : Class) → IsClassText text class → IsOnlyClass text class → IsAccepted class → (IsStraightForm class → ⊥) → IsRefused text (codes "form") first_place
 

@@ -2,7 +2,8 @@
 
 ghost use Rattle.std.specs.Prelude.{◌≡◌, ◌≤◌, [], length, IfOk};
 ghost use Rattle.std.specs.String.{string_bytes};
-ghost use Rattle.java_types.specs.Check.{findings_of};
+ghost use Rattle.java_types.specs.Check.{findings_of, types_of};
+ghost use Rattle.java_flow.specs.Findings.{findings as flow_findings};
 ghost use Rattle.early_forms.specs.declared.straight.StraightClass.{StraightClass as ClassOf};
 ghost use Rattle.early_forms.specs.Trees.{class_tree};
 ghost use Rattle.early_forms.specs.Names.{IsProper};
@@ -10,6 +11,7 @@ ghost use Rattle.sdg_top.specs.Accepted.{IsClassText, IsAccepted, entrances_of};
 ghost use Rattle.sdg_top.specs.Acceptance.{phase_text, Judges, IsTaken, RefusesAt, JudgesTree, JudgesTokens};
 ghost use Rattle.sdg_top.specs.Entrances.{straight_entrance};
 
+use annotations::{AnnotError, annotated};
 use early_forms::{StraightClass, StraightMethod, straight_form};
 use java_flow::{FlowError, flow};
 use java_lexer::{LexError, lex};
@@ -20,7 +22,7 @@ use run_text::{Entrance, ValueType};
 use sqlite_items::Items;
 use std::alloc::{AllocError, Global};
 
-/// The phases in which a class is judged, in their order. A rule on types has its number.
+/// The phases in which a class is judged, in their order. A rule on types or on annotations has its number.
 #[derive(Clone, Copy)]
 pub(crate) enum Phase {
     Byte,
@@ -31,6 +33,7 @@ pub(crate) enum Phase {
     Unreachable,
     MissingReturn,
     Unassigned,
+    Annotation(u8),
     Form,
 }
 
@@ -48,6 +51,7 @@ impl Phase {
             Phase::Unreachable => String::from_str(alloc, "flow 1"),
             Phase::MissingReturn => String::from_str(alloc, "flow 2"),
             Phase::Unassigned => String::from_str(alloc, "flow 3"),
+            Phase::Annotation(rule) => format!(in alloc; "annotation {rule}"),
             Phase::Form => String::from_str(alloc, "form"),
         }
     }
@@ -74,13 +78,30 @@ fn judge_form(alloc: Global, tree: &Class) -> Result<Judgement, AllocError>
     }
 }
 
-/// Judges a class that breaks no rule on types.
-fn judge_flow(alloc: Global, typed: &Typed) -> Result<Judgement, AllocError>
-    requires { findings_of typed.now.class ≡ [] }
-    ensures { IfOk result (JudgesTree typed.now.class) }
+/// Judges a class that breaks no rule on types or on the flow of statements.
+fn judge_annotations(alloc: Global, typed: Typed) -> Result<Judgement, AllocError>
+    requires typed { findings_of typed.class ≡ [] }
+    requires flows { flow_findings typed.class ≡ [] }
+    requires types { typed.types ≡ types_of typed.class }
+    ensures { IfOk result (JudgesTree typed.class) }
 {
-    match flow(alloc, typed) {
-        Ok(()) => judge_form(alloc, &typed.class),
+    match annotated(alloc, typed) {
+        Ok(annotated) => judge_form(alloc, &annotated.typed.class),
+        Err(AnnotError::Rule { rule, place }) => {
+            Ok(Judgement::Refuses(Phase::Annotation(rule), place))
+        }
+        Err(AnnotError::Memory) => Err(AllocError),
+    }
+}
+
+/// Judges a class that breaks no rule on types.
+fn judge_flow(alloc: Global, typed: Typed) -> Result<Judgement, AllocError>
+    requires typed { findings_of typed.class ≡ [] }
+    requires types { typed.types ≡ types_of typed.class }
+    ensures { IfOk result (JudgesTree typed.class) }
+{
+    match flow(alloc, &typed) {
+        Ok(()) => judge_annotations(alloc, typed),
         Err(FlowError::Unreachable(at)) => Ok(Judgement::Refuses(Phase::Unreachable, at)),
         Err(FlowError::MissingReturn(at)) => Ok(Judgement::Refuses(Phase::MissingReturn, at)),
         Err(FlowError::Unassigned(at)) => Ok(Judgement::Refuses(Phase::Unassigned, at)),
@@ -93,7 +114,7 @@ fn judge_tree(alloc: Global, tree: Class) -> Result<Judgement, AllocError>
     ensures { IfOk result (JudgesTree tree) }
 {
     match check(alloc, tree) {
-        Ok(typed) => judge_flow(alloc, &typed),
+        Ok(typed) => judge_flow(alloc, typed),
         Err(TypeError::Rule { rule, place }) => Ok(Judgement::Refuses(Phase::Type(rule), place)),
         Err(TypeError::Memory) => Err(AllocError),
     }

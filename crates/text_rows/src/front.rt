@@ -3,6 +3,7 @@
 use crate::groups::grouped;
 use crate::texts::bytes_of;
 use crate::tokens::{counted, placed, shown};
+use annotations::{AnnotError, annotated};
 use early_forms::straight_form;
 use java_flow::{FlowError, flow};
 use java_lexer::{LexError, lex};
@@ -25,6 +26,8 @@ enum Refused {
     Types(#[from] TypeError),
     #[error(transparent)]
     Flow(#[from] FlowError),
+    #[error(transparent)]
+    Annotations(#[from] AnnotError),
     #[error("out of memory")]
     Memory(#[from(alloc)] AllocError),
 }
@@ -53,6 +56,20 @@ fn flow_of(alloc: Global, text: &str) -> Result<String, Refused> {
     let typed = check(alloc, class_of(alloc, text)?)?;
     flow(alloc, &typed)?;
     Ok(String::from_str(alloc, "accepted")?)
+}
+
+/// How many fields and sites a class has.
+fn annotations_of(alloc: Global, text: &str) -> Result<String, Refused> {
+    let annotated = annotated(alloc, check(alloc, class_of(alloc, text)?)?)?;
+    let (fields, sites) = (annotated.kinds.len(), annotated.sites.len());
+    Ok(format!(in alloc; "{fields} fields, {sites} sites")?)
+}
+
+/// The same of a class whose fields are the partitioned table `t` and matrix `m`, and the partial table `p` and counter
+/// `c`, with these methods.
+fn accesses(alloc: Global, text: &str) -> Result<String, Refused> {
+    let text = format!(in alloc; "class A {{ @Partitioned Table t = new Table(); @Partitioned Matrix m = new Matrix();\n@Partial Table p = new Table(); @Partial Counter c = new Counter();\n{text} }}")?;
+    annotations_of(alloc, text.as_str())
 }
 
 /// Whether a class is of the straight form.
@@ -93,7 +110,8 @@ fn groups(alloc: Global, text: &str) -> Result<String, Refused> {
 /// What errors say that no text gives.
 fn memory(alloc: Global) -> Result<String, Refused> {
     let tokens = format!(in alloc; "{}; {}", LexError::Memory, ParseError::Memory)?;
-    Ok(format!(in alloc; "{tokens}; {}; {}", TypeError::Memory, FlowError::Memory)?)
+    let rules = format!(in alloc; "{}; {}", TypeError::Memory, FlowError::Memory)?;
+    Ok(format!(in alloc; "{tokens}; {rules}; {}", AnnotError::Memory)?)
 }
 
 fn answer(alloc: Global, kind: &str, text: &str) -> Result<String, Refused> {
@@ -106,6 +124,8 @@ fn answer(alloc: Global, kind: &str, text: &str) -> Result<String, Refused> {
         "groups" => groups(alloc, text),
         "types" => types(alloc, text),
         "flow" => flow_of(alloc, text),
+        "annotations" => annotations_of(alloc, text),
+        "accesses" => accesses(alloc, text),
         "form" => form(alloc, text),
         "members" => members(alloc, text),
         "memory" => memory(alloc),
