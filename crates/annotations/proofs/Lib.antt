@@ -1,4 +1,10 @@
+mod Counting
 mod Earliest
+mod ExpressionCounts
+mod ExpressionSteps
 mod Firsts
 mod Lists
+mod MemberCounts
+mod SimpleCounts
 mod Sizes
+mod StatementCounts

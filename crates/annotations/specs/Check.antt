@@ -42,7 +42,7 @@ pub record IsLeast (all : List Refused) (f : Refused) : Type 0 where
 
 -- what is known before the first token
 abbrev pub start : Walk
-start = record { at = 0; used = 0; in_entry = false; in_header = false; collections = []; locals = []; awaited = None; sites = []; findings = [] }
+start = record { at = 0; used = 0; in_entry = false; in_header = false; collections = []; locals = []; awaited = None; partial = None; sites = []; findings = [] }
 
 -- what is known behind the last member, where the names of the class stand for these declarations
 unfoldable pub whole : Class → List Declaration → Walk
@@ -58,6 +58,14 @@ findings_of t = broken t.class t.types.names
 -- of each access to state, in text order
 abbrev pub sites_of : Typed → List Site
 sites_of t = (whole t.class t.types.names).sites
+
+abbrev pub place_if : List Place → Option ℕ → Option Place
+place_if places None = None
+place_if places (Some token) = Some (place_at places token)
+
+-- where the first partial field begins, if there is one
+abbrev pub first_partial : Typed → Option Place
+first_partial t = place_if t.class.places (whole t.class t.types.names).partial
 
 -- what a refusal says: the least of what is broken, if it is not want of memory
 abbrev pub Refuses : List Refused → AnnotError → Type 0

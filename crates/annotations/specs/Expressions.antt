@@ -73,17 +73,18 @@ first_key (a ∷ more) w = a.key w
 
 -- ---- calls
 
-abbrev pub argument_position : Bool → ℕ → Position → Position
-argument_position of_merge at position = if of_merge then Merged at (is_for_merge position) else Inside
+abbrev pub argument_position : Bool → ℕ → Bool → Position
+argument_position of_merge at merging = if of_merge then Merged at merging else Inside
 
 -- Rule 12: a call of a merge method has one argument.
 unfoldable pub own_head : Env → ℕ → Walk → Walk
 own_head env count w = taken env (noted (is_merge_method env (coming env w) && not (nat_eq count 1)) w.at 12 w)
 
+-- A call merges where it is a whole value, and `@Global` doesn't stand before it.
 abbrev pub own_call : Env → Position → Option ℕ → List Argument → Walk → Walk
 own_call env position global args w =
     let n = noted_at global 10 w in
-    arguments env (argument_position (is_merge_method env (coming env n)) n.at position) args (own_head env (length args) n)
+    arguments env (argument_position (is_merge_method env (coming env n)) n.at (is_for_merge position && not (is_some global))) args (own_head env (length args) n)
 
 -- an access up to its arguments, of which the first is a key
 unfoldable pub access_head : Env → ℕ → Position → Option ℕ → List ℕ → (Walk → Key) → Walk → Walk

@@ -3,6 +3,7 @@ pub mod Check
 pub mod Environment
 pub mod Expressions
 pub mod Kinds
+pub mod Laws
 pub mod Members
 pub mod Positions
 pub mod Simples

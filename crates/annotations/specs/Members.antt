@@ -19,7 +19,9 @@ use Rattle.java_tree.specs.Kinds.{kind_of}
 use Rattle.java_tree.specs.Words.{state_class}
 use Rattle.annotations.specs.declared.walk.Env.{Env}
 use Rattle.annotations.specs.declared.walk.Walk.{Walk}
-use Rattle.annotations.specs.Kinds.{is_partitioned_modifier}
+use Rattle.annotations.specs.declared.site.FieldKind.{FieldKind}
+use Rattle.annotations.specs.declared.site.FieldKind.TheVariants.{Partitioned, Partial}
+use Rattle.annotations.specs.Kinds.{is_partitioned_modifier, kind_of_field}
 use Rattle.annotations.specs.Walks.{past, past_if, past_none, noted}
 use Rattle.annotations.specs.Statements.{in_block, item_walk}
 
@@ -45,11 +47,20 @@ is_counter _ = false
 abbrev pub past_modifier : Env → Walk → FieldModifier → Walk
 past_modifier env w m = past env 1 (past_if env (is_annotation m) 1 w)
 
+abbrev pub first_of : Option ℕ → ℕ → Option ℕ
+first_of (Some first) token = Some first
+first_of None token = Some token
+
+-- A field of this kind begins.
+abbrev pub met : FieldKind → Walk → Walk
+met Partitioned w = w
+met Partial w = record w { partial = first_of w.partial w.at }
+
 -- Rule 1: not exactly one annotation. Rule 2: a counter that is `@Partitioned`.
 unfoldable pub field_walk : Env → Field → Walk → Walk
 field_walk env f w =
     past env 8 (fold (past_modifier env) (noted (list_any is_partitioned_modifier f.modifiers && is_counter (state_class f.type_name)) w.at 2
-    (noted (not (nat_eq (annotations f.modifiers) 1)) w.at 1 w)) f.modifiers)
+    (noted (not (nat_eq (annotations f.modifiers) 1)) w.at 1 (met (kind_of_field f) w))) f.modifiers)
 
 -- ---- methods
 

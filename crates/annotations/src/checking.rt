@@ -29,6 +29,7 @@ pub struct Found {
     pub names: Items<Declaration>,
     pub kinds: Kinds,
     pub sites: Sites,
+    pub partial: Option<usize>,
     pub findings: Items<Finding>,
 }
 
@@ -104,6 +105,7 @@ fn walk_of(alloc: Global, class: &Class, env: &Env) -> Result<Walk, AllocError>
         collections: Items::new(alloc),
         locals: Items::new(alloc),
         awaited: None,
+        partial: None,
         sites: Items::new(alloc),
         findings: Items::new(alloc),
     };
@@ -116,6 +118,7 @@ fn found_in(alloc: Global, class: &Class, names: Items<Declaration>) -> Result<F
     ensures names { IfOk result (λ f. f.names ≡ names) }
     ensures kinds { IfOk result (λ f. f.kinds ≡ kinds_of class.now) }
     ensures sites { IfOk result (λ f. f.sites ≡ (spec.whole class.now names).sites) }
+    ensures partial { IfOk result (λ f. f.partial ≡ (spec.whole class.now names).partial) }
     ensures findings { IfOk result (λ f. f.findings ≡ (spec.whole class.now names).findings) }
 {
     let env = env_of(alloc, class, names)?;
@@ -124,6 +127,7 @@ fn found_in(alloc: Global, class: &Class, names: Items<Declaration>) -> Result<F
         names: env.names,
         kinds: env.kinds,
         sites: walk.sites,
+        partial: walk.partial,
         findings: walk.findings,
     })
 }
@@ -135,13 +139,26 @@ fn refusal(refused: Refused) -> AnnotError
     AnnotError::Rule { rule, place }
 }
 
+/// The place of a token, if there is one.
+fn place_if(places: &[Place], token: Option<usize>) -> Option<Place>
+    ensures { result ≡ spec.place_if places.now token }
+{
+    match token {
+        Some(token) => Some(place_at(places, token)),
+        None => None,
+    }
+}
+
 /// What is found of a class, or what is refused first.
+#[tactic(auto, using(crate::proofs::Firsts::only_memory))]
 fn judged(alloc: Global, class: &Class, names: Items<Declaration>) -> Result<Found, AnnotError>
     ensures names { IfOk result (λ f. f.names ≡ names) }
     ensures kinds { IfOk result (λ f. f.kinds ≡ kinds_of class.now) }
     ensures sites { IfOk result (λ f. f.sites ≡ (spec.whole class.now names).sites) }
+    ensures partial { IfOk result (λ f. f.partial ≡ (spec.whole class.now names).partial) }
     ensures sound { IfOk result (λ f. spec.broken class.now names ≡ []) }
     ensures refused { IfErr result (spec.Refuses (spec.broken class.now names)) }
+    ensures accepted { spec.broken class.now names ≡ [] → IfErr result (λ e. e ≡ AnnotError.Memory) }
 {
     let Ok(found) = found_in(alloc, class, names) else {
         return Err(AnnotError::Memory);
@@ -152,7 +169,8 @@ fn judged(alloc: Global, class: &Class, names: Items<Declaration>) -> Result<Fou
     }
 }
 
-/// The kinds of the fields of a class and the sites of its accesses, or the first rule on annotations that it breaks.
+/// The kinds of the fields of a class, the sites of its accesses and the place of its first partial field, or the first rule
+/// on annotations that it breaks.
 ///
 /// The class is one that the rules on types accept, with its types. Its sites stand in text order, one for each call of
 /// a field's method.
@@ -165,9 +183,12 @@ pub fn annotated(alloc: Global, typed: Typed) -> Result<Annotated, AnnotError>
     ensures same { IfOk result (λ a. a.typed ≡ typed) }
     ensures kinds { IfOk result (λ a. a.kinds ≡ kinds_of typed.class) }
     ensures sites { IfOk result (λ a. a.sites ≡ spec.sites_of typed) }
+    ensures partial { IfOk result (λ a. a.partial ≡ spec.first_partial typed) }
     ensures sound { IfOk result (λ a. spec.findings_of typed ≡ []) }
     // Otherwise the finding at the least place, and at one place that of the least rule.
     ensures refused { IfErr result (spec.Refuses (spec.findings_of typed)) }
+    // A class that breaks no rule is refused for want of memory alone.
+    ensures accepted { spec.findings_of typed ≡ [] → IfErr result (λ e. e ≡ AnnotError.Memory) }
 {
     let Typed { class, types } = typed;
     let Types { exprs, names } = types;
@@ -177,14 +198,17 @@ pub fn annotated(alloc: Global, typed: Typed) -> Result<Annotated, AnnotError>
                 names,
                 kinds,
                 sites,
+                partial,
                 ..
             } = found;
+            let partial = place_if(class.places.as_slice(), partial);
             let types = Types { exprs, names };
             let typed = Typed { class, types };
             Ok(Annotated {
                 typed,
                 kinds,
                 sites,
+                partial,
             })
         }
         Err(error) => {

@@ -35,14 +35,11 @@ fn value_key(is_global: bool, key: Key) -> Key
     if is_global { Key::Compound } else { key }
 }
 
-fn argument_position(of_merge: bool, at: usize, position: Position) -> Position
-    ensures { result ≡ spec.argument_position of_merge at position }
+fn argument_position(of_merge: bool, at: usize, merges: bool) -> Position
+    ensures { result ≡ spec.argument_position of_merge at merges }
 {
     if of_merge {
-        Position::Merged {
-            call: at,
-            merges: position.is_for_merge(),
-        }
+        Position::Merged { call: at, merges }
     } else {
         Position::Inside
     }
@@ -284,9 +281,10 @@ pub fn call(
         CallForm::Own(_, args) => {
             walk.note_at(global, 10)?;
             let of_merge = is_merge_method(env, walk.coming(env));
-            let at = argument_position(of_merge, walk.at, position);
+            let merges = position.is_for_merge() && !global.is_some();
+            let inner = argument_position(of_merge, walk.at, merges);
             walk.own_head(env, args.len())?;
-            arguments(env, walk, at, args.as_slice())
+            arguments(env, walk, inner, args.as_slice())
         }
         CallForm::Of(_, name, args) => {
             head(

@@ -67,10 +67,22 @@ fn is_counter(class: Option<ClassName>) -> bool
     matches!(class, Some(ClassName::Counter))
 }
 
+/// Begins a field of this kind.
+fn meet(walk: &mut Walk, kind: FieldKind)
+    ensures { walk.new ≡ spec.met kind walk.old }
+{
+    if let FieldKind::Partial = kind
+        && walk.partial.is_none()
+    {
+        walk.partial = Some(walk.at);
+    }
+}
+
 #[tactic(auto, unfolding(crate::specs::Members::field_walk))]
 fn field(env: &Env, walk: &mut Walk, f: &Field) -> Result<(), AllocError>
     ensures { OnOk result (walk.new ≡ spec.field_walk env.now f.now walk.old) }
 {
+    meet(walk, kind_of_field(f));
     let at = walk.at;
     let class = words::state_class(f.type_name.as_slice());
     let partitioned = is_partitioned(f.modifiers.as_slice());

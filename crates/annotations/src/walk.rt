@@ -51,6 +51,8 @@ pub struct Walk {
     pub locals: Items<Option<usize>>,
     /// The `@Partial` local that the statement before declares, if it is not merged yet.
     pub awaited: Option<Awaited>,
+    /// The first token of the first partial field so far.
+    pub partial: Option<usize>,
     pub sites: Sites,
     pub findings: Items<Finding>,
 }

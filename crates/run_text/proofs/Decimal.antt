@@ -1,5 +1,5 @@
 -- Numbers in their one decimal form.
-use Rattle.std.proofs.Common.{◌≡◌, All, ℕ, zero, suc, ◌^◌, ◌<◌, ◌≤◌, true, false, List, [], ◌∷◌, length, get_or, drop, ℤ, pos, negsuc, neg_ℤ, Result, Ok, Err, refl, sym, ap, ◌∙◌, subst, arith, MatchOption, inl, inr}
+use Rattle.std.proofs.Common.{◌≡◌, All, ℕ, zero, suc, ◌+◌, ◌^◌, ◌<◌, ◌≤◌, true, false, List, [], ◌∷◌, length, get_or, drop, ℤ, pos, negsuc, neg_ℤ, Result, Ok, Err, refl, sym, ap, ◌∙◌, subst, arith, MatchOption, inl, inr}
 use Rattle.std.specs.Prelude.{◌≢◌, FitsSigned}
 use Rattle.std.specs.Result.{result_ok, OkIff}
 use Rattle.std.specs.Fmt.{decimal, signed_decimal}
@@ -13,7 +13,10 @@ use Rattle.std.proofs.lemmas.List.Elements.{All-from_get_or, All-cons}
 use Rattle.std.proofs.lemmas.Fmt.{decimal_digit, first_decimal, decimal_is_IsNumeral, decimal-digits_value, IsAscii-signed, parse-signed_decimal, decimal_nonempty, signed_decimal_injective}
 use Rattle.std.proofs.lemmas.Bool.{cases_eq}
 use Rattle.std.proofs.lemmas.Bool.Decides.{nat_tests}
+use Rattle.std.proofs.lemmas.List.{length-drop}
+use Rattle.std.proofs.lemmas.Grind.{get_or_after_one}
 use Rattle.run_text.specs.Numbers.{begins_above_zero, begins_as_number}
+use Rattle.run_text.specs.Histories.{IsCount}
 
 own : IsNumeralModel (AllDigits 10) (digits_value 10)
 own = numerals_by_value (AllDigits 10) tells_digits
@@ -119,6 +122,14 @@ pub some_text : (n : ℤ) → FitsSigned w64 n → signed_decimal n ≢ []
 some_text (pos n) fits e = omega (arith, decimal_nonempty n (omega (arith, fits.sfits)), ap length e)
 some_text (negsuc n) fits e = cc
 
+-- ---- The numbers of calls
+
+pub no_upto : (bs : List ℕ) (most : ℕ) → most < 2 ^ 32 → ((n : ℤ) → FitsSigned w64 n → signed_decimal n ≢ bs) → (n : ℕ) → (1 ≤ n) × (n ≤ most) → decimal n ≢ bs
+no_upto bs most small none n within e = none (pos n) (record { sfits = omega (arith, within.1) }) e
+
+pub only_upto : (bs : List ℕ) (most n : ℕ) (z : ℤ) → most < 2 ^ 32 → FitsSigned w64 z → signed_decimal z ≡ bs → n ≤ most → decimal n ≡ bs → z ≡ pos n
+only_upto bs most n z small fits text within e = only_number bs z (pos n) fits (record { sfits = omega arith }) text e
+
 -- ---- The numbers of a byte
 
 -- a number that isn't negative is one of the numbers that a long has
@@ -138,3 +149,17 @@ byte_from_long bs m z (Ok n) long same h =
 byte_from_long bs m z (Err e) long same h = λ n lt text.
     let one : m ≡ pos n = only_number bs m (pos n) long.0 (long_of_byte n lt) long.1 text in
     h (subst (FitsUnsignedBits 8) (sym (same ∙ one)) lt)
+
+-- ---- The text of a number that isn't negative
+
+digit_of : (n i : ℕ) → n < 2 ^ 63 → i < length (decimal n) → (48 ≤ get_or (decimal n) i 0) × (get_or (decimal n) i 0 ≤ 57)
+digit_of n i lt inside = let d = digit_at (decimal n) i (decimal_is_IsNumeral n (omega arith)).0.1 inside in (omega (arith, d.0), omega (arith, d.1))
+
+behind_first : (n i : ℕ) → n < 2 ^ 63 → i < length (drop 1 (decimal n)) → (48 ≤ get_or (drop 1 (decimal n)) i 0) × (get_or (drop 1 (decimal n)) i 0 ≤ 57)
+behind_first n i lt inside = rw (get_or_after_one (decimal n) i 0) (digit_of n (1 + i) lt (omega (arith, inside, length-drop 1 (decimal n))))
+
+pub count_text : (n : ℕ) → n < 256 → IsCount (decimal n)
+count_text n lt = record {
+  number = record { begins = begins-signed (pos n) (record { sfits = omega arith }); digits = All-from_get_or (λ b. (48 ≤ b) × (b ≤ 57)) (drop 1 (decimal n)) 0 (λ i. behind_first n i (omega arith)) };
+  plain = λ e. let d = digit_of n 0 (omega arith) (decimal_nonempty n (omega arith)) in omega (arith, d.0);
+}

@@ -1,5 +1,5 @@
 -- What a line of an event breaks, and what it doesn't.
-use Rattle.std.proofs.Common.{◌≡◌, ◌≢◌, ℕ, ◌<◌, ◌≤◌, List, [], ◌∷◌, length, get_or, Option, Some, None, refl, sym, ap, ◌∙◌, subst, arith, is_some, true}
+use Rattle.std.proofs.Common.{◌≡◌, ◌≢◌, ℕ, ◌<◌, ◌≤◌, List, [], ◌∷◌, length, get_or, Option, Some, None, refl, sym, ap, ◌∙◌, subst, arith, is_some, true, false}
 use Rattle.std.specs.Prelude.{codes}
 use Rattle.std.specs.Fmt.{decimal}
 use Rattle.std.specs.Borrow.{Bor}
@@ -20,6 +20,10 @@ use Rattle.run_text.proofs.Parts.{parts_some}
 pub some_coming : (later : Option (Bor (List ℕ))) → is_some later ≡ true → coming later ≢ []
 some_coming None some none = cc
 some_coming (Some rest) some none = let p = parts_some 32 rest.now in let e : p.0 ∷ p.1 ≡ [] = sym p.2 ∙ none in cc
+
+pub none_coming : (later : Option (Bor (List ℕ))) → is_some later ≡ false → coming later ≡ []
+none_coming None none = refl
+none_coming (Some rest) none = cc
 
 first_bytes : (a b : List ℕ) (ws us : Words) → a ∷ ws ≡ b ∷ us → get_or a 0 0 ≡ get_or b 0 0
 first_bytes a b ws us e = ap (λ (xs : Words). get_or (get_or xs 0 []) 0 0) e

@@ -10,3 +10,10 @@ pub mod Ports
 pub mod Events
 pub mod ScheduleText
 pub mod ScheduleLaws
+pub mod Fields
+pub mod Places
+pub mod Steps
+pub mod HistoryText
+pub mod HistoryBreaks
+pub mod HistoryLaws
+pub mod Fronts

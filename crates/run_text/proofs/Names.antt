@@ -10,6 +10,8 @@ use Rattle.std.proofs.lemmas.List.Elements.{All-push}
 use Rattle.std.proofs.lemmas.Slice.Eq.{bytes_eq-Decides}
 use Rattle.std.proofs.lemmas.Map.Text.{btree_map_updates_str}
 use Rattle.run_text.specs.declared.entrance.Entrance.{Entrance}
+use Rattle.run_text.specs.declared.field.Field.{Field}
+use Rattle.run_text.specs.HistoryReading.{IsIndexOfFields}
 use Rattle.run_text.specs.Index.{Index, index_at, IsFirstNamed, IsIndex, IsFieldIndex}
 
 named_within : {A : Type 0} (f : A → List ℕ) (es : List A) (name : List ℕ) (m : ℕ) → IsSomeAnd (slice_get es m) (λ d. f d ≡ name) → m < length es
@@ -89,3 +91,11 @@ next_known_field es i e m lt at there h = record { first = (known_next (λ d. d)
 
 pub next_added_field : (es : List (List ℕ)) (i : ℕ) (e : List ℕ) (m n : Index) → i < length es → e ≡ get_or es i e → is_some (index_at m e) ≡ false → UpdatesBy (λ x y. slice_cmp nat_cmp x.now y.now) (λ k. slice_cmp nat_cmp e k.now) m n (Some i) → IsFieldIndex (take i es) m → IsFieldIndex (take (i + 1) es) n
 next_added_field es i e m n lt at absent updates h = record { first = (added_next (λ d. d) es i e m n lt at absent updates (record { first = h.first })).first }
+
+-- ---- Fields that may be partial
+
+pub next_known_member : (es : List Field) (i : ℕ) (e : Field) (m : Index) → i < length es → e ≡ get_or es i e → is_some (index_at m e.name) ≡ true → IsIndexOfFields (take i es) m → IsIndexOfFields (take (i + 1) es) m
+next_known_member es i e m lt at there h = record { first = (known_next (λ d. d.name) es i e m lt at there (record { first = h.first })).first }
+
+pub next_added_member : (es : List Field) (i : ℕ) (e : Field) (m n : Index) → i < length es → e ≡ get_or es i e → is_some (index_at m e.name) ≡ false → UpdatesBy (λ x y. slice_cmp nat_cmp x.now y.now) (λ k. slice_cmp nat_cmp e.name k.now) m n (Some i) → IsIndexOfFields (take i es) m → IsIndexOfFields (take (i + 1) es) n
+next_added_member es i e m n lt at absent updates h = record { first = (added_next (λ d. d.name) es i e m n lt at absent updates (record { first = h.first })).first }

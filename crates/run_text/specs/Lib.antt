@@ -7,3 +7,5 @@ pub mod Reading
 pub mod Index
 pub mod Schedules
 pub mod ScheduleReading
+pub mod Histories
+pub mod HistoryReading

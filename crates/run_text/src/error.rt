@@ -4,6 +4,7 @@ ghost use Rattle.std.specs.Prelude.{◌≡◌};
 ghost use Rattle.run_text.specs.Calls.{number_of};
 ghost use Rattle.run_text.specs.Reading.{error_at};
 ghost use Rattle.run_text.specs.Schedules.{rule_number};
+ghost use Rattle.run_text.specs.Histories.{history_rule_number};
 ghost use Rattle.run_text.specs.declared.error.LineError.TheVariants as line;
 ghost use Rattle.run_text.specs.declared.error.TextError.TheVariants as text;
 
@@ -69,6 +70,36 @@ impl ScheduleRule {
             ScheduleRule::Port => 4,
             ScheduleRule::Number => 5,
             ScheduleRule::Limit => 7,
+        }
+    }
+}
+
+/// A rule of a line of a history. The rules are judged in this order.
+#[derive(Clone, Copy, Debug, PartialEq, Eq)]
+pub enum HistoryRule {
+    /// The bytes are printable ASCII, and single spaces stand between words alone.
+    Spelling,
+    /// A header stands only first, with its numbers in range.
+    Header,
+    /// The first words are those of a known step, and the step has as many words.
+    Step,
+    /// Each call and each partial field exists, and each instance is a number that isn't negative.
+    Reference,
+    /// An instance is below the width of a partial field, and no growth ends above 64.
+    Width,
+}
+
+impl HistoryRule {
+    /// Its number in a report. Rule 6, that each step is its call's next, is of runs and not of texts.
+    pub fn number(self) -> u8
+        ensures { result ≡ history_rule_number self }
+    {
+        match self {
+            HistoryRule::Spelling => 1,
+            HistoryRule::Header => 2,
+            HistoryRule::Step => 3,
+            HistoryRule::Reference => 4,
+            HistoryRule::Width => 5,
         }
     }
 }

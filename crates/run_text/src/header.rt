@@ -15,11 +15,11 @@ use placement::Header;
 
 /// The words that stand where a header has its numbers.
 #[derive(Clone, Copy)]
-struct Numerals<'a> {
-    nodes: &'a [u8],
-    slots: &'a [u8],
-    stores: &'a [u8],
-    width: &'a [u8],
+pub(crate) struct Numerals<'a> {
+    pub(crate) nodes: &'a [u8],
+    pub(crate) slots: &'a [u8],
+    pub(crate) stores: &'a [u8],
+    pub(crate) width: &'a [u8],
 }
 
 /// The header of a line.
@@ -77,7 +77,7 @@ fn are_numbers(numerals: Numerals) -> bool
 }
 
 /// The words of a line that stand where a header has its numbers.
-fn numerals_of(line: &[u8]) -> Option<Numerals>
+pub(crate) fn numerals_of(line: &[u8]) -> Option<Numerals>
     ensures { MatchOption result ((nodes slots stores width : List ℕ) → words line.now ≢ form_words nodes slots stores width) (λ n. words line.now ≡ form_words n.nodes.now n.slots.now n.stores.now n.width.now) }
 {
     let (word, rest) = cut(line, b' ');

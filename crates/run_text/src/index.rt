@@ -3,8 +3,12 @@
 ghost use Rattle.std.specs.Prelude.{◌≡◌, ◌≢◌, ◌^◌, ◌≤◌, length, All, IfOk, MatchOption};
 ghost use Rattle.run_text.specs.Calls.{IsMethod};
 ghost use Rattle.run_text.specs.Index.{index_at, IsIndex, IsFieldIndex};
+ghost use Rattle.run_text.specs.HistoryReading.{IsIndexOfFields};
+ghost use Rattle.run_text.specs.Histories.{IsNamedPartial};
+ghost use Rattle.std.specs.Prelude.{ℕ};
 
 use crate::entrance::Entrance;
+use crate::field::Field;
 use sdg_base::Name;
 use std::alloc::{AllocError, Global};
 use std::collections::BTreeMap;
@@ -56,6 +60,36 @@ pub(crate) fn field_index_of(
         }
     }
     Ok(index)
+}
+
+/// The number of each name's first field, whether it is partial or not.
+pub(crate) fn class_index_of(
+    alloc: Global,
+    fields: &[Field],
+) -> Result<BTreeMap<&[u8], u16>, AllocError>
+    requires { length fields.now ≤ 2 ^ 16 }
+    ensures { IfOk result (IsIndexOfFields fields.now) }
+{
+    let mut index = BTreeMap::new(alloc);
+    for (number, field) in fields.iter().enumerate() {
+        let name = field.name.as_slice();
+        if !index.contains_key(name) {
+            index.insert(name, number as u16)?;
+        }
+    }
+    Ok(index)
+}
+
+/// The number of the partial field of a name.
+pub(crate) fn partial_of(fields: &[Field], index: &BTreeMap<&[u8], u16>, name: &[u8]) -> Option<u16>
+    requires { IsIndexOfFields fields.now index.now }
+    ensures { MatchOption result ((field : ℕ) → ¬ IsNamedPartial fields.now name.now field) (IsNamedPartial fields.now name.now) }
+{
+    let number = number_in(index, name)?;
+    if !fields[number as usize].partial {
+        return None;
+    }
+    Some(number)
 }
 
 /// What an index has for a name.

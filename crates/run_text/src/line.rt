@@ -1,9 +1,10 @@
 //! The lines of a text, and the words of a line.
 
-ghost use Rattle.std.specs.Prelude.{◌≡◌, ◌<◌, ◌+◌, ◌==◌, ◌↔◌, [], ◌∷◌, length, count_by, IsTrue, MatchOption};
+ghost use Rattle.std.specs.Prelude.{◌≡◌, ◌<◌, ◌+◌, ◌-◌, take, ◌==◌, ◌↔◌, [], ◌∷◌, length, count_by, IsTrue, MatchOption};
 ghost use Rattle.std.specs.List.{AllByRecursion};
 ghost use Rattle.std.specs.Str.Lines.{lines, strip_carriage_return};
 ghost use Rattle.run_text.specs.Lines.{is_skipped, words, IsWellSpelled};
+ghost use Rattle.run_text.specs.Histories.{is_report_line, is_untold};
 
 use crate::part::cut;
 
@@ -20,6 +21,25 @@ pub(crate) fn first_line(text: &[u8]) -> Option<(&[u8], &[u8])>
         return Some((line, &[]));
     };
     Some((without_return(line), rest))
+}
+
+/// What stands before the line of this number, from 1: the lines before it, and nothing else.
+pub fn lines_before(bytes: &[u8], line: u32) -> &[u8]
+    ensures lines { lines result.now ≡ take (line - 1) (lines bytes.now) }
+    ensures front { result.now ≡ take (length result.now) bytes.now }
+{
+    let mut rest = bytes;
+    let mut number = 1;
+    while number < line {
+        let (_, later) = cut(rest, b'\n');
+        let Some(more) = later else {
+            return bytes;
+        };
+        rest = more;
+        number += 1;
+    }
+    let (before, _) = bytes.split_at(bytes.len() - rest.len());
+    before
 }
 
 /// A line without the carriage return at its end.
@@ -40,6 +60,24 @@ pub(crate) fn skips(line: &[u8]) -> bool
         [] => true,
         [first, ..] => *first == b'#',
     }
+}
+
+/// Whether a line tells nothing of a history.
+pub(crate) fn is_untold(line: &[u8]) -> bool
+    ensures { result ≡ is_untold line.now }
+{
+    skips(line) || is_report_line(line)
+}
+
+/// Whether a line of a report is neither its header nor a step.
+fn is_report_line(line: &[u8]) -> bool
+    ensures { result ≡ is_report_line line.now }
+{
+    line.starts_with(b"event ")
+        || line.starts_with(b"drain ")
+        || line.starts_with(b"result ")
+        || line.starts_with(b"unfinished ")
+        || line.starts_with(b"end ")
 }
 
 /// Whether a line has printable bytes alone, and single spaces between words alone.

@@ -4,6 +4,8 @@ ghost use Rattle.std.specs.Prelude.{◌≡◌, ◌≢◌, ◌<◌, ◌≤◌, �
 ghost use Rattle.std.specs.Fmt.{signed_decimal};
 ghost use Rattle.std.specs.Int.{w32, w64};
 ghost use Rattle.run_text.specs.Numbers.{begins_above_zero, begins_as_number, IsNumber};
+ghost use Rattle.run_text.specs.Histories.{IsCallNumber, IsCount};
+ghost use Rattle.std.specs.Prelude.{slice_index};
 
 /// The `int` that the bytes write, where they write one.
 pub(crate) fn int_of(bytes: &[u8]) -> Option<i32>
@@ -67,6 +69,47 @@ fn byte_of(bytes: &[u8]) -> Option<u8>
     match long_of(bytes) {
         Some(n) => u8::try_from(n).ok(),
         None => None,
+    }
+}
+
+/// The number from 1 to `most` that the bytes write, where they write one.
+pub(crate) fn number_upto(bytes: &[u8], most: u32) -> Option<u32>
+    ensures { MatchOption result ((n : ℕ) → IsCallNumber most n → decimal n ≢ bytes.now) (λ n. IsCallNumber most n × (decimal n ≡ bytes.now)) }
+{
+    let number = long_of(bytes)?;
+    if number < 1 {
+        return None;
+    }
+    if i64::from(most) < number {
+        return None;
+    }
+    Some(number as u32)
+}
+
+/// The number below `limit` that the bytes write, where they write one.
+pub(crate) fn number_below(bytes: &[u8], limit: u8) -> Option<u8>
+    ensures { MatchOption result ((n : ℕ) → n < limit → decimal n ≢ bytes.now) (λ n. (n < limit) × (decimal n ≡ bytes.now)) }
+{
+    if limit == 0 {
+        return None;
+    }
+    number_within(bytes, 0, limit - 1)
+}
+
+/// Whether the bytes write a number of any size that isn't negative.
+pub(crate) fn is_count(bytes: &[u8]) -> bool
+    ensures { IsTrue result ↔ IsCount bytes.now }
+{
+    is_number(bytes) && !has_minus(bytes)
+}
+
+/// Whether a minus stands first.
+fn has_minus(bytes: &[u8]) -> bool
+    ensures { IsTrue result ↔ (slice_index bytes.now 0 ≡ 45) }
+{
+    match bytes {
+        [first, ..] => *first == b'-',
+        [] => false,
     }
 }
 

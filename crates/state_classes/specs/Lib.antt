@@ -1,8 +1,10 @@
 pub mod Arguments
 pub mod Entries
+pub mod Kept
 pub mod Laws
 pub mod Methods
 pub mod Objects
 pub mod Plans
 pub mod Shown
 pub mod States
+pub mod Walks

@@ -42,7 +42,7 @@ called_on_matrix plan entries = (plan.outcome, OfMatrix (changed by_row_and_colu
 abbrev pub called_on_counter : Plan ℕ ℤ → ℤ → Outcome × State
 called_on_counter plan value = (plan.outcome, OfCounter (set_to plan.change value))
 
-abbrev pub called : Method → List Val → State → Outcome × State
+unfoldable pub called : Method → List Val → State → Outcome × State
 called m args (OfTable entries) = called_on_table (planned_on_table m args entries) entries
 called m args (OfMatrix entries) = called_on_matrix (planned_on_matrix m args entries) entries
 called m args (OfCounter value) = called_on_counter (planned_on_counter m args value) value

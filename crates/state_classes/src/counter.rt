@@ -66,11 +66,18 @@ impl Held for Counter {
 }
 
 impl StateClass for Counter {
+    ghost use Rattle.sdg_base.specs.declared.store.ClassName.TheVariants as class_name;
+    ghost use Rattle.state_classes.specs.Methods.{is_keyed};
+    ghost use Rattle.state_classes.specs.Kept.{counter_keeps, counter_is_taken};
     ghost use Rattle.state_classes.specs.Plans.{planned_on_held_counter};
 
     ghost planned = { planned_on_held_counter };
 
     ghost takes = { λ key value. (key ≡ 0) × IsSome value };
+
+    ghost keyed = { is_keyed class_name.Counter };
+
+    ghost is_in_part = { λ _ _. ⊥ };
 
     fn plan<H: Held<Key = u8, Value = i64>>(
         _alloc: Global,
@@ -98,6 +105,10 @@ impl StateClass for Counter {
         self.value = value_after(self.value, plan.change);
         Ok(plan.outcome)
     }
+
+    ghost keeps = { counter_keeps };
+
+    ghost taken = { counter_is_taken };
 }
 
 impl Access for Counter {
@@ -105,6 +116,7 @@ impl Access for Counter {
 
     ghost held = { OfCounter };
 
+    #[tactic(auto, unfolding(crate::specs::States::called))]
     fn call(&mut self, _alloc: Global, method: Method, args: &Vals) -> Result<Outcome, AllocError> {
         let plan = plan_on(self.value, method, args.as_slice());
         self.value = value_after(self.value, plan.change);

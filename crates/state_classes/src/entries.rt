@@ -2,6 +2,8 @@
 
 ghost use Rattle.std.specs.Prelude.{◌≡◌, OnOk, OnErr};
 ghost use Rattle.std.specs.Option.{option_map};
+ghost use Rattle.std.specs.List.Sorted.{IsStrictlySortedBy};
+ghost use Rattle.std.specs.Map.{keys_of};
 ghost use Rattle.state_classes.specs.Entries.{key_after, with_entry, changed};
 
 use std::alloc::{AllocError, Global};
@@ -10,7 +12,8 @@ use std::ops::Bound;
 
 /// The least key above the given one, or the least of all where none is given.
 pub(crate) fn key_after<K: Ord + Copy>(entries: &BTreeMap<K, i64>, key: Option<&K>) -> Option<K>
-    ensures { result ≡ key_after K.cmp (option_map (λ k. k.now) key.entry) entries.now.entries }
+    ensures key { result ≡ key_after K.cmp (option_map (λ k. k.now) key.entry) entries.now.entries }
+    ensures rising { IsStrictlySortedBy K.cmp (keys_of entries.now.entries) }
 {
     match key {
         None => least(entries),
@@ -19,16 +22,18 @@ pub(crate) fn key_after<K: Ord + Copy>(entries: &BTreeMap<K, i64>, key: Option<&
 }
 
 fn least<K: Ord + Copy>(entries: &BTreeMap<K, i64>) -> Option<K>
-    ensures { result ≡ key_after K.cmp None entries.now.entries }
+    ensures key { result ≡ key_after K.cmp None entries.now.entries }
+    ensures rising { IsStrictlySortedBy K.cmp (keys_of entries.now.entries) }
 {
-    match entries.first_key_value() {
+    match entries.iter().next() {
         Some((key, _)) => Some(*key),
         None => None,
     }
 }
 
 fn least_above<K: Ord + Copy>(entries: &BTreeMap<K, i64>, key: K) -> Option<K>
-    ensures { result ≡ key_after K.cmp (Some key) entries.now.entries }
+    ensures key { result ≡ key_after K.cmp (Some key) entries.now.entries }
+    ensures rising { IsStrictlySortedBy K.cmp (keys_of entries.now.entries) }
 {
     match entries
         .range((Bound::Excluded(key), Bound::Unbounded))

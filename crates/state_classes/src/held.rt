@@ -23,7 +23,8 @@ pub trait Held {
     /// The least key above the given one, or the least of all where none is given. `None` exactly
     /// where there is no such key.
     fn after(&self, key: Option<&Self::Key>) -> Option<Self::Key>
-        ensures { result ≡ key_after Self.Key.cmp (option_map (λ k. k.now) key.entry) (entries self.now) };
+        ensures key { result ≡ key_after Self.Key.cmp (option_map (λ k. k.now) key.entry) (entries self.now) }
+        ensures rising { IsStrictlySortedBy Self.Key.cmp (keys_of (entries self.now)) };
 
     /// The number of entries, which is below 2^63.
     fn size(&self) -> usize

@@ -4,6 +4,7 @@ ghost use Rattle.std.specs.Prelude.{◌≡◌, ◌≤◌, ◌<◌, ◌^◌, leng
 ghost use Rattle.sdg_base.specs.declared.val.Num.TheVariants as num;
 ghost use Rattle.sdg_base.specs.Arithmetic.{wrap};
 ghost use Rattle.state_classes.specs.Entries.{by_row_and_column, with_entry};
+ghost use Rattle.state_classes.specs.Walks.{IsNextInRow, column_below};
 ghost use Rattle.state_classes.specs.Plans.{planned_on_matrix, element, is_column, row_of, row_plan, weighted, product};
 
 use crate::access::Access;
@@ -68,11 +69,20 @@ impl Held for Matrix {
 }
 
 impl StateClass for Matrix {
+    ghost use Rattle.sdg_base.specs.declared.store.ClassName.TheVariants as class_name;
+    ghost use Rattle.state_classes.specs.Laws.{IsInRow};
+    ghost use Rattle.state_classes.specs.Methods.{is_keyed};
+    ghost use Rattle.state_classes.specs.Kept.{matrix_keeps, any_is_taken};
+    ghost use Rattle.state_classes.specs.Walks.{IsNextInRow, column_below};
     ghost use Rattle.state_classes.specs.Plans.{planned_on_matrix};
 
     ghost planned = { planned_on_matrix };
 
     ghost takes = { λ _ _. Unit {0} };
+
+    ghost keyed = { is_keyed class_name.Matrix };
+
+    ghost is_in_part = { IsInRow };
 
     fn plan<H: Held<Key = (i64, i64), Value = i64>>(
         alloc: Global,
@@ -100,6 +110,10 @@ impl StateClass for Matrix {
         make_change(&mut self.entries, plan.change)?;
         Ok(plan.outcome)
     }
+
+    ghost keeps = { matrix_keeps };
+
+    ghost taken = { λ m args held. any_is_taken (planned_on_matrix m args held) };
 }
 
 impl Access for Matrix {
@@ -107,6 +121,7 @@ impl Access for Matrix {
 
     ghost held = { OfMatrix };
 
+    #[tactic(auto, unfolding(crate::specs::States::called))]
     fn call(&mut self, alloc: Global, method: Method, args: &Vals) -> Result<Outcome, AllocError> {
         StateClass::call(self, alloc, method, args)
     }
@@ -280,17 +295,51 @@ fn product<H: Held<Key = (i64, i64), Value = i64>>(
     Ok(products)
 }
 
-/// The sum over the columns of a row's element there times the vector's.
+/// The sum over the columns of a row's element there times the vector's. It passes over the entries of
+/// the row alone.
 fn row_sum<H: Held<Key = (i64, i64), Value = i64>>(held: &H, row: i64, v: &[i64]) -> i64
     ensures { result ≡ wrap num.Long (weighted row 0 v.now (H.entries held.now)) }
 {
-    let mut sum = 0;
     let count = length_of(v);
-    for column in 0..count {
-        let element = element(held, row, column as i64);
-        sum = plus_product(&sum, &element, &v[column]);
+    let mut sum = 0;
+    let mut column = 0;
+    'columns: loop {
+        match next_in_row(held, row, column, count) {
+            Some(next) => {
+                let element = element(held, row, next as i64);
+                sum = plus_product(&sum, &element, &v[next]);
+                column = next + 1;
+            }
+            None => return sum,
+        }
     }
-    sum
+}
+
+/// A column from one on and below an end, before which a row's elements are 0.
+fn next_in_row<H: Held<Key = (i64, i64), Value = i64>>(
+    held: &H,
+    row: i64,
+    from: usize,
+    end: usize,
+) -> Option<usize>
+    requires from { from ≤ end }
+    requires end { end < 2 ^ 63 }
+    ensures { IsNextInRow row from end (H.entries held.now) result }
+{
+    let found = held.after(Some(&(row, from as i64 - 1)))?;
+    column_below(&found, &row, end)
+}
+
+/// The column of a key, where it is in a row and below an end.
+fn column_below(key: &(i64, i64), row: &i64, end: usize) -> Option<usize>
+    requires { end < 2 ^ 63 }
+    ensures { result ≡ column_below key.now row.now end }
+{
+    if key.0 == *row && 0 <= key.1 && key.1 < end as i64 {
+        Some(key.1 as usize)
+    } else {
+        None
+    }
 }
 
 /// The number of elements, which is below 2^63, since each takes memory.

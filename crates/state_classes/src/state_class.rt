@@ -1,10 +1,11 @@
 //! The classes that hold state: what their methods answer and change.
 
-ghost use Rattle.std.specs.Prelude.{◌≡◌, List, Option, Some, IfOk, OnOk, OnErr};
+ghost use Rattle.std.specs.Prelude.{◌≡◌, ℤ, Bool, List, Option, IfSome, IfOk, OnOk, OnErr};
 ghost use Rattle.sdg_base.specs.declared.val.Val.{Val};
 ghost use Rattle.state_classes.specs.declared.method.Method.{Method};
 ghost use Rattle.state_classes.specs.declared.plan.Plan.{Plan};
 ghost use Rattle.state_classes.specs.Entries.{with_entry, changed};
+ghost use Rattle.state_classes.specs.Laws.{CallsKeepToTheirPart};
 
 use crate::held::Held;
 use crate::method::Method;
@@ -20,6 +21,12 @@ pub trait StateClass: Held {
 
     /// The changes of an entry that the class takes.
     ghost takes: { Self.Key → Option Self.Value → Type 0 };
+
+    /// Whether the first argument of a method is the key, or the row, that chooses a part.
+    ghost keyed: { Method → Bool };
+
+    /// The keys of the part that such an argument chooses.
+    ghost is_in_part: { ℤ → Self.Key → Type 0 };
 
     /// Plans a method on what `held` holds. A method that the class does not have, and arguments of
     /// other types, answer nothing and change nothing.
@@ -57,4 +64,10 @@ pub trait StateClass: Held {
         ensures change { OnOk result (Self.entries self.new
             ≡ changed Self.Key.cmp (planned method args.now (Self.entries self.old)).change (Self.entries self.old)) }
         ensures err { OnErr result (Self.entries self.new ≡ Self.entries self.old) };
+
+    /// A keyed call depends on the entries of its part alone, and changes an entry of it.
+    ghost keeps: { CallsKeepToTheirPart Self.Key.cmp is_in_part keyed planned };
+
+    /// The class takes what its plans change.
+    ghost taken: { (m : Method) (args : List Val) (held : List (Self.Key × Self.Value)) → IfSome (planned m args held).change (λ change. takes change.0 change.1) };
 }

@@ -64,11 +64,19 @@ impl Held for Table {
 }
 
 impl StateClass for Table {
+    ghost use Rattle.sdg_base.specs.declared.store.ClassName.TheVariants as class_name;
+    ghost use Rattle.state_classes.specs.Laws.{IsKey};
+    ghost use Rattle.state_classes.specs.Methods.{is_keyed};
+    ghost use Rattle.state_classes.specs.Kept.{table_keeps, any_is_taken};
     ghost use Rattle.state_classes.specs.Plans.{planned_on_table};
 
     ghost planned = { planned_on_table };
 
     ghost takes = { λ _ _. Unit {0} };
+
+    ghost keyed = { is_keyed class_name.Table };
+
+    ghost is_in_part = { IsKey };
 
     fn plan<H: Held<Key = i64, Value = i64>>(
         _alloc: Global,
@@ -91,6 +99,10 @@ impl StateClass for Table {
         make_change(&mut self.entries, plan.change)?;
         Ok(plan.outcome)
     }
+
+    ghost keeps = { table_keeps };
+
+    ghost taken = { λ m args held. any_is_taken (planned_on_table m args held) };
 }
 
 impl Access for Table {
@@ -98,6 +110,7 @@ impl Access for Table {
 
     ghost held = { OfTable };
 
+    #[tactic(auto, unfolding(crate::specs::States::called))]
     fn call(&mut self, alloc: Global, method: Method, args: &Vals) -> Result<Outcome, AllocError> {
         StateClass::call(self, alloc, method, args)
     }

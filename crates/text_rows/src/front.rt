@@ -68,7 +68,9 @@ fn annotations_of(alloc: Global, text: &str) -> Result<String, Refused> {
 /// The same of a class whose fields are the partitioned table `t` and matrix `m`, and the partial table `p` and counter
 /// `c`, with these methods.
 fn accesses(alloc: Global, text: &str) -> Result<String, Refused> {
-    let text = format!(in alloc; "class A {{ @Partitioned Table t = new Table(); @Partitioned Matrix m = new Matrix();\n@Partial Table p = new Table(); @Partial Counter c = new Counter();\n{text} }}")?;
+    let text = format!(in alloc;
+        "class A {{ @Partitioned Table t = new Table(); @Partitioned Matrix m = new Matrix();\n@Partial Table p = new Table(); @Partial Counter c = new Counter();\n{text} }}"
+    )?;
     annotations_of(alloc, text.as_str())
 }
 

@@ -1,4 +1,4 @@
-use Rattle.std.proofs.Common.{◌≡◌, ℕ, pos, map}
+use Rattle.std.proofs.Common.{◌≡◌, pos, map}
 use Rattle.std.specs.List.{range_with_len}
 use Rattle.sdg_base.specs.declared.val.Num.TheVariants as num
 use Rattle.sdg_base.specs.Arithmetic.{wrap}

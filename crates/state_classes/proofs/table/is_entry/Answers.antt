@@ -1,7 +1,7 @@
 use Rattle.std.proofs.Common.{is_some, ap, ◌∙◌, w64}
 use Rattle.std.specs.Ordering.{int_cmp}
 use Rattle.std.proofs.lemmas.Int.{to_z-of_z}
-use Rattle.state_classes.specs.Entries.{entry_at, has_entry}
+use Rattle.state_classes.specs.Entries.{has_entry}
 use Rattle.state_classes.proofs.table.is_entry.Goals as goal
 
 pub returns : goal.returns

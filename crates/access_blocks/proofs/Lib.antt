@@ -1,0 +1,4 @@
+pub mod Accesses
+pub mod Holders
+pub mod Lists
+pub mod Markings

@@ -1,0 +1,10 @@
+pub mod Expressions
+pub mod Statements
+pub mod Calls
+pub mod Cursors
+pub mod Resolving
+pub mod ResolvingStatements
+pub mod Marks
+pub mod Programs
+pub mod Source
+pub mod Serial

@@ -1,0 +1,5 @@
+pub mod Fields
+pub mod Seen
+pub mod Called
+pub mod Passes
+pub mod Applications

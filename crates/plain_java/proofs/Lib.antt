@@ -1,0 +1,9 @@
+mod CallTurns
+mod Frames
+mod Histories
+mod Keeping
+mod Moves
+mod Passes
+mod Seams
+mod Steps
+mod Turns
