@@ -1,0 +1,5 @@
+pub mod Once
+pub mod Legal
+pub mod Causes
+pub mod Reading
+pub mod Stepped
