@@ -9,15 +9,21 @@ use std::test::*;
 /// The entry methods of the tests: `get(long)`, `put(long, int)`, `set(Vector, boolean)` and `size()`.
 fn entrances(alloc: Global) -> Result<[Entrance; 4], AllocError> {
     Ok([
-        entrance(alloc, b"get", &[ValueType::Long])?,
-        entrance(alloc, b"put", &[ValueType::Long, ValueType::Int])?,
-        entrance(alloc, b"set", &[ValueType::Vector, ValueType::Boolean])?,
-        entrance(alloc, b"size", &[])?,
+        entrance(alloc, 1, b"get", &[ValueType::Long])?,
+        entrance(alloc, 3, b"put", &[ValueType::Long, ValueType::Int])?,
+        entrance(alloc, 4, b"set", &[ValueType::Vector, ValueType::Boolean])?,
+        entrance(alloc, 6, b"size", &[])?,
     ])
 }
 
-fn entrance(alloc: Global, name: &[u8], parameters: &[ValueType]) -> Result<Entrance, AllocError> {
+fn entrance(
+    alloc: Global,
+    number: u16,
+    name: &[u8],
+    parameters: &[ValueType],
+) -> Result<Entrance, AllocError> {
     Ok(Entrance {
+        number,
         name: Items::from_slice(alloc, name)?,
         parameters: Items::from_slice(alloc, parameters)?,
     })
@@ -32,7 +38,7 @@ fn values_are_those_of_the_words(rt: HostRuntime) -> Result<(), Fail> {
     let [put, set, get] = calls.as_slice() else {
         return Ok(());
     };
-    assert_eq!(rt; (put.method, set.method, get.method), (1, 2, 0));
+    assert_eq!(rt; (put.method, set.method, get.method), (3, 4, 1));
     assert!(rt; matches!(put.args.as_slice(), [Val::Long(5), Val::Int(-6)]));
     assert!(rt; matches!(get.args.as_slice(), [Val::Long(7)]));
     assert!(rt; matches!(set.args.as_slice(), [Val::Vector(_), Val::Bool(true)]));
@@ -46,18 +52,18 @@ fn values_are_those_of_the_words(rt: HostRuntime) -> Result<(), Fail> {
 fn the_first_method_of_a_name_counts(rt: HostRuntime) -> Result<(), Fail> {
     let alloc = rt.alloc();
     let entrances = [
-        entrance(alloc, b"b", &[])?,
-        entrance(alloc, b"a", &[ValueType::Int])?,
-        entrance(alloc, b"b", &[ValueType::Int])?,
-        entrance(alloc, b"a", &[])?,
-        entrance(alloc, b"ab", &[])?,
+        entrance(alloc, 0, b"b", &[])?,
+        entrance(alloc, 2, b"a", &[ValueType::Int])?,
+        entrance(alloc, 3, b"b", &[ValueType::Int])?,
+        entrance(alloc, 4, b"a", &[])?,
+        entrance(alloc, 7, b"ab", &[])?,
     ];
     let calls = read_calls(alloc, &entrances, b"a 1\nb\nab")?;
     let [first, second, third] = calls.as_slice() else {
         assert!(rt; false, "three calls");
         return Ok(());
     };
-    assert_eq!(rt; (first.method, second.method, third.method), (1, 0, 4));
+    assert_eq!(rt; (first.method, second.method, third.method), (2, 0, 7));
     assert_eq!(rt;
         read_calls(alloc, &entrances, b"a").err(),
         Some(TextError::Bad { line: 1, rule: 3 })

@@ -22,7 +22,7 @@ use Rattle.run_text.specs.Values.{Fits, FitVector, value_text}
 use Rattle.run_text.specs.Calls.{CallFits, IsCall, IsWritten, AreCalls, BreaksAt, IsFirstBreak, number_of, IsRefusal}
 use Rattle.run_text.proofs.Elements.{same_inner, split_elements}
 use Rattle.run_text.proofs.Decimal.{some_text}
-use Rattle.run_text.proofs.Rules.{one_place, one_method}
+use Rattle.run_text.proofs.Rules.{one_method}
 use Rattle.run_text.proofs.Text.{calls_break_none}
 
 -- ---- A text is that of one value of a type.
@@ -130,8 +130,8 @@ one_call es line a b p q =
     let both = sym p.words ∙ q.words in
     let names : p.fits.entrance.name ≡ q.fits.entrance.name = cc in
     let texts : map value_text a.args ≡ map value_text b.args = cc in
-    let methods : a.method ≡ b.method = one_place es a.method b.method p.fits.entrance q.fits.entrance p.method q.method names in
-    let entrances : q.fits.entrance ≡ p.fits.entrance = one_method es b.method a.method q.fits.entrance p.fits.entrance q.method p.method (sym names) in
+    let entrances : q.fits.entrance ≡ p.fits.entrance = one_method es q.fits.place p.fits.place q.fits.entrance p.fits.entrance q.method p.method (sym names) in
+    let methods : a.method ≡ b.method = p.fits.number ∙ ap (λ (d : Entrance). d.number) (sym entrances) ∙ sym q.fits.number in
     made a.method b.method a.args b.args methods (one_args p.fits.entrance.parameters a.args b.args p.fits.args (subst (λ (d : Entrance). AllZip Fits d.parameters b.args) entrances q.fits.args) texts)
 
 one_list_of_calls : (es : List Entrance) (ls : List (List ℕ)) (cs bs : List Call) → AllZip (IsCall es) ls cs → AllZip (IsCall es) ls bs → cs ≡ bs
@@ -163,7 +163,7 @@ one_break es ls m n r s p q =
 
 text_of : (es : List Entrance) (line : List ℕ) (call : Call) → IsCall es line call → IsWritten es line call
 text_of es line call c =
-    record { entrance = c.fits.entrance; method = c.fits.method; text = sym (join_with_byte-slice_split 32 line) ∙ ap (join_with_byte 32) c.words }
+    record { place = c.fits.place; entrance = c.fits.entrance; method = c.fits.method; number = c.fits.number; text = sym (join_with_byte-slice_split 32 line) ∙ ap (join_with_byte 32) c.words }
 
 texts_of : (es : List Entrance) (ls : List (List ℕ)) (calls : List Call) → AllZip (IsCall es) ls calls → AllZip (IsWritten es) ls calls
 texts_of es [] [] h = tt

@@ -54,7 +54,7 @@ no_later es i j a b p q names =
       | inr le ↦ le
     ]
 
-pub one_place : (es : List Entrance) (i j : ℕ) (a b : Entrance) → IsMethod es i a → IsMethod es j b → a.name ≡ b.name → i ≡ j
+one_place : (es : List Entrance) (i j : ℕ) (a b : Entrance) → IsMethod es i a → IsMethod es j b → a.name ≡ b.name → i ≡ j
 one_place es i j a b p q names = omega (arith, no_later es i j a b p q names, no_later es j i b a q p (sym names))
 
 pub one_method : (es : List Entrance) (i j : ℕ) (a b : Entrance) → IsMethod es i a → IsMethod es j b → a.name ≡ b.name → a ≡ b
@@ -95,12 +95,12 @@ value_stands es before line d args named fit same broken =
 pub call_breaks_none : (es : List Entrance) (before : ℕ) (line : List ℕ) (call : Call) (rule : CallRule) → IsCall es line call → before < 2 ^ 16 → ¬ Breaks es before line rule
 call_breaks_none es before line call Spelling c room broken = broken c.spelled
 call_breaks_none es before line call Method c room broken =
-    method_stands es before line c.fits.entrance (is_named es call.method c.fits.entrance line (map value_text call.args) c.method c.words) broken
+    method_stands es before line c.fits.entrance (is_named es c.fits.place c.fits.entrance line (map value_text call.args) c.method c.words) broken
 call_breaks_none es before line call Count c room broken =
     let long : length (words line) ≡ length c.fits.entrance.parameters + 1 = omega (arith, ap length c.words, length-map call.args value_text, AllZip-long Fits c.fits.entrance.parameters call.args c.fits.args) in
-    count_stands es before line c.fits.entrance (is_named es call.method c.fits.entrance line (map value_text call.args) c.method c.words) long broken
+    count_stands es before line c.fits.entrance (is_named es c.fits.place c.fits.entrance line (map value_text call.args) c.method c.words) long broken
 call_breaks_none es before line call Value c room broken =
-    value_stands es before line c.fits.entrance call.args (is_named es call.method c.fits.entrance line (map value_text call.args) c.method c.words) c.fits.args (sym (ap (drop 1) c.words)) broken
+    value_stands es before line c.fits.entrance call.args (is_named es c.fits.place c.fits.entrance line (map value_text call.args) c.method c.words) c.fits.args (sym (ap (drop 1) c.words)) broken
 call_breaks_none es before line call Limit c room broken = omega arith
 
 -- ---- The least rule that a line breaks
@@ -166,11 +166,11 @@ found_args es m d line n before (e.Breaks Method) f counted same misfit = absurd
 found_args es m d line n before (e.Breaks Count) f counted same misfit = absurd misfit
 found_args es m d line n before (e.Breaks Limit) f counted same misfit = absurd misfit
 
-pub found_call : (es : List Entrance) (m : ℕ) (d : Entrance) (line : List ℕ) (args : List Val) → Found es m d line → AllZip Fits d.parameters args × (map value_text args ≡ drop 1 (words line)) → IsCall es line (record { method = m; args = args })
+pub found_call : (es : List Entrance) (m : ℕ) (d : Entrance) (line : List ℕ) (args : List Val) → Found es m d line → AllZip Fits d.parameters args × (map value_text args ≡ drop 1 (words line)) → IsCall es line (record { method = d.number; args = args })
 found_call es m d line args f h =
     record {
       spelled = f.spelled;
-      fits = record { entrance = d; method = f.method.entry; args = h.0 };
+      fits = record { place = m; entrance = d; method = f.method.entry; number = refl; args = h.0 };
       method = f.method;
       words = f.parts ∙ ap (λ (ws : List (List ℕ)). d.name ∷ ws) (sym (h.1 ∙ ap (drop 1) f.parts));
     }

@@ -12,17 +12,19 @@ use Rattle.run_text.specs.declared.error.TextError.TheVariants as t
 use Rattle.run_text.specs.Lines.{is_skipped, said_lines, words, IsWellSpelled}
 use Rattle.run_text.specs.Values.{Fits, value_text, IsNoValue}
 
--- The entry method has this number, and is the first of its name: in a class no two have one name, and where two had, the first would count.
-pub record IsMethod (entrances : List Entrance) (number : ℕ) (entrance : Entrance) : Type 0 where
-  pub entry : slice_get entrances number ≡ Some entrance
-  pub first : All (λ other. other.name ≢ entrance.name) (take number entrances)
+-- The entry method stands at this place, and is the first of its name: in a class no two have one name, and where two had, the first would count.
+pub record IsMethod (entrances : List Entrance) (place : ℕ) (entrance : Entrance) : Type 0 where
+  pub entry : slice_get entrances place ≡ Some entrance
+  pub first : All (λ other. other.name ≢ entrance.name) (take place entrances)
 
 -- ---- Calls
 
--- The method of a call exists, and the arguments have its parameters' types, one for one.
+-- The method of a call is the number of an entry method, and the arguments have its parameters' types, one for one.
 pub record CallFits (entrances : List Entrance) (call : Call) : Type 0 where
+  pub place : ℕ
   pub entrance : Entrance
-  pub method : slice_get entrances call.method ≡ Some entrance
+  pub method : slice_get entrances place ≡ Some entrance
+  pub number : call.method ≡ entrance.number
   pub args : AllZip Fits entrance.parameters call.args
 
 -- a call as words: the method's name, and each argument
@@ -37,13 +39,15 @@ call_text entrance args = join_with_byte 32 (call_words entrance args)
 pub record IsCall (entrances : List Entrance) (line : List ℕ) (call : Call) : Type 0 where
   pub spelled : IsWellSpelled line
   pub fits : CallFits entrances call
-  pub method : IsMethod entrances call.method fits.entrance
+  pub method : IsMethod entrances fits.place fits.entrance
   pub words : words line ≡ call_words fits.entrance call.args
 
 -- the line is how this call is written
 pub record IsWritten (entrances : List Entrance) (line : List ℕ) (call : Call) : Type 0 where
+  pub place : ℕ
   pub entrance : Entrance
-  pub method : slice_get entrances call.method ≡ Some entrance
+  pub method : slice_get entrances place ≡ Some entrance
+  pub number : call.method ≡ entrance.number
   pub text : line ≡ call_text entrance call.args
 
 -- The calls of the lines: in order, those of each line that isn't skipped.

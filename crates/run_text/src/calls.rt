@@ -111,12 +111,15 @@ fn call_of(
         return Err(LineError::Breaks(CallRule::Spelling));
     }
     let (name, _) = cut(line, b' ');
-    let Some((method, entrance)) = method_of(entrances, index, name) else {
+    let Some(entrance) = method_of(entrances, index, name) else {
         return Err(LineError::Breaks(CallRule::Method));
     };
     if spaces(line) != entrance.parameters.len() {
         return Err(LineError::Breaks(CallRule::Count));
     }
     let args = values_of(alloc, entrance.parameters.as_slice(), line)?;
-    Ok(Call { method, args })
+    Ok(Call {
+        method: entrance.number,
+        args,
+    })
 }

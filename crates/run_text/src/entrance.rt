@@ -13,9 +13,11 @@ pub enum ValueType {
     Vector,
 }
 
-/// An entry method: its name, and the types of its parameters in their order.
+/// An entry method: its number among the methods of its class, its name, and the types of its parameters in their
+/// order.
 #[derive(Debug, Drop)]
 pub struct Entrance {
+    pub number: u16,
     pub name: Name,
     pub parameters: Items<ValueType>,
 }

@@ -13,7 +13,7 @@ use sdg_base::Name;
 use std::alloc::{AllocError, Global};
 use std::collections::BTreeMap;
 
-/// The number of each name's first entry method.
+/// The place of each name's first entry method.
 pub(crate) fn index_of(
     alloc: Global,
     entrances: &[Entrance],
@@ -31,17 +31,17 @@ pub(crate) fn index_of(
     Ok(index)
 }
 
-/// The first entry method of a name, with its number.
+/// The first entry method of a name.
 pub(crate) fn method_of<'a>(
     entrances: &'a [Entrance],
     index: &BTreeMap<&[u8], u16>,
     name: &[u8],
-) -> Option<(u16, &'a Entrance)>
+) -> Option<&'a Entrance>
     requires { IsIndex entrances.now index.now }
-    ensures { MatchOption result (All (λ entrance. entrance.name ≢ name.now) entrances.now) (λ found. IsMethod entrances.now found.0 found.1.now × (found.1.now.name ≡ name.now)) }
+    ensures { MatchOption result (All (λ entrance. entrance.name ≢ name.now) entrances.now) (λ found. (place : ℕ) × IsMethod entrances.now place found.now × (found.now.name ≡ name.now)) }
 {
-    let number = number_in(index, name)?;
-    Some((number, &entrances[number as usize]))
+    let place = number_in(index, name)?;
+    Some(&entrances[place as usize])
 }
 
 /// The number of each name's first field.

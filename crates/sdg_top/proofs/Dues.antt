@@ -5,6 +5,11 @@ use Rattle.std.specs.declared.alloc.AllocError.{AllocError}
 use Rattle.std.proofs.lemmas.Result.{IfOk-weaker}
 use Rattle.std.proofs.lemmas.List.{take-append-drop}
 use Rattle.sdg_base.specs.declared.call.Call.{Call}
+use Rattle.java_tree.specs.declared.tree.Class.{Class}
+use Rattle.access_blocks.specs.declared.body.Program.{Program}
+use Rattle.run_text.specs.declared.field.Field.{Field}
+use Rattle.sdg_top.specs.Accepted.{program_of}
+use Rattle.sdg_top.specs.Entrances.{fields_of}
 use Rattle.early_forms.specs.declared.straight.StraightClass.{StraightClass}
 use Rattle.sdg_keep.specs.declared.read_call.ReadCall.{ReadCall}
 use Rattle.sdg_keep.specs.Faults.{Rises}
@@ -15,9 +20,11 @@ use Rattle.sdg_top.specs.declared.answer.Answer.{Answer}
 use Rattle.sdg_top.specs.declared.status.Status.{Status}
 use Rattle.sdg_top.specs.declared.status.Status.TheVariants as status
 use Rattle.sdg_top.specs.Answers.{unreadable_line, too_long_line}
-use Rattle.sdg_top.specs.Accepted.{Text}
-use Rattle.sdg_top.specs.Due.{DueForSchedule, RefusesSchedule, ReportedSchedule, ReportedDefault, DueForCalls, RefusesCalls, TakesCalls, DueForTexts, RefusesClass, TakesClass, run_words, run_files, run_texts, AskFor, Due, NoCommand, UnreadableFile, LongFile, RunAnswers, AreTold, NoFault, IsAnswer, WritesPrefix}
-use Rattle.sdg_top.specs.Read.{SaysWhy, NoRead, NoRoom, AreRunTexts}
+use Rattle.sdg_top.specs.declared.command.Command.{Command}
+use Rattle.sdg_top.specs.Commands.{Text, TakesThird, AreWords, files_of, texts_of}
+use Rattle.sdg_top.specs.Due.{DueForSchedule, RefusesSchedule, ReportedSchedule, ReportedDefault, DueForRun, RefusesCalls, TakesCalls, DueForPlain, RefusesPlainCalls, RunsPlain, DueForTexts, RefusesClass, RefusesForm, RunsForm, RefusesPartial, RunsWhole, RunsAlong, DueForHistory, RefusesHistory, RunsHistory, DueForReplay, RefusesReplayCalls, TakesReplayCalls, AskFor, Due, NoCommand, UnreadableFile, LongFile, CommandAnswers, AreTold, NoFault, IsAnswer, WritesPrefix}
+use Rattle.sdg_top.specs.Read.{SaysWhy, NoRead, NoRoom, AreTexts}
+use Rattle.sdg_top.proofs.Names.{takes_any}
 
 due_as : (words : List Text) (files : Told) (s s' : Status) (t t' : Text) → s' ≡ s → t' ≡ t → Due words files s t → Due words files s' t'
 due_as words files s s' t t' p q d = subst (λ (x : Status). Due words files x t') (sym p) (subst (λ (y : Text). Due words files s y) (sym q) d)
@@ -42,31 +49,31 @@ module _ (content : Text → Option Text) (faults : ℕ) (reads : Option (List R
   pub reads_cut : (files : List (Text × ℕ)) → Reads left_alone files CutShort
   reads_cut files = record { calls = []; made = Appends-none reads; are = Between [] files [] refl Nothing; faults = refl }
 
--- ---- the texts of a run
+-- ---- the texts of a command
 
--- the files of a run that were read have the texts of one
-pub run_read : (content : Text → Option Text) (class calls : Text) (schedule : Option Text) (reads : List ReadCall) (texts : List Text) → AreRead content (run_files class calls schedule) reads texts → AreRunTexts texts
-run_read content class calls None reads texts (First n l text m r c f ts are ends was (First n2 l2 text2 m2 r2 c2 f2 ts2 are2 ends2 was2 Nothing)) =
-    record { class = text; calls = text2; schedule = None; are = refl; class_small = was.within; calls_small = was2.within; schedule_small = tt }
-run_read content class calls (Some schedule) reads texts (First n l text m r c f ts are ends was (First n2 l2 text2 m2 r2 c2 f2 ts2 are2 ends2 was2 (First n3 l3 text3 m3 r3 c3 f3 ts3 are3 ends3 was3 Nothing))) =
-    record { class = text; calls = text2; schedule = Some text3; are = refl; class_small = was.within; calls_small = was2.within; schedule_small = was3.within }
+-- the files that were read have the texts of the command
+pub files_read : (content : Text → Option Text) (command : Command) (class calls : Text) (third : Option Text) (reads : List ReadCall) (texts : List Text) → TakesThird command third → AreRead content (files_of class calls third) reads texts → AreTexts command texts
+files_read content command class calls None reads texts takes (First n l text m r c f ts are ends was (First n2 l2 text2 m2 r2 c2 f2 ts2 are2 ends2 was2 Nothing)) =
+    record { class = text; calls = text2; third = None; takes = takes; are = refl; class_small = was.within; calls_small = was2.within; third_small = tt }
+files_read content command class calls (Some third) reads texts takes (First n l text m r c f ts are ends was (First n2 l2 text2 m2 r2 c2 f2 ts2 are2 ends2 was2 (First n3 l3 text3 m3 r3 c3 f3 ts3 are3 ends3 was3 Nothing))) =
+    record { class = text; calls = text2; third = Some text3; takes = takes_any command third text3 takes; are = refl; class_small = was.within; calls_small = was2.within; third_small = was3.within }
 
-pub run_whole : (files : Told) (class calls : Text) (schedule : Option Text) (texts : List Text) → Reads files (run_files class calls schedule) (AllRead texts) → AreRunTexts texts
-run_whole files class calls schedule texts reads = whole (AllRead texts) refl reads.are
+pub files_whole : (files : Told) (command : Command) (class calls : Text) (third : Option Text) (texts : List Text) → TakesThird command third → Reads files (files_of class calls third) (AllRead texts) → AreTexts command texts
+files_whole files command class calls third texts takes reads = whole (AllRead texts) refl reads.are
   where
-    whole : (ending : Ending) → ending ≡ AllRead texts → ReadsOf files.content (run_files class calls schedule) reads.calls ending → AreRunTexts texts
-    whole (AllRead texts') same (Whole ts read) = subst (λ (w : List Text). AreRunTexts w) (let e : texts' ≡ texts = cc in e) (run_read files.content class calls schedule reads.calls texts' read)
+    whole : (ending : Ending) → ending ≡ AllRead texts → ReadsOf files.content (files_of class calls third) reads.calls ending → AreTexts command texts
+    whole (AllRead texts') same (Whole ts read) = subst (λ (w : List Text). AreTexts command w) (let e : texts' ≡ texts = cc in e) (files_read files.content command class calls third reads.calls texts' takes read)
     whole (Unreadable name) same of = absurd cc
     whole (TooLong name) same of = absurd cc
     whole CutShort same of = absurd cc
 
--- Where the texts of a run were read, what they are due is due.
-pub due_read : (files : Told) (class calls : Text) (schedule : Option Text) (texts : List Text) (result : Result Answer AllocError) → Reads files (run_files class calls schedule) (AllRead texts)
-    → ((c k : Text) (o : Option Text) → texts ≡ run_texts c k o → IfOk result (λ a. DueForTexts c k o a.status a.text)) → IfOk result (λ a. Due (run_words class calls schedule) files a.status a.text)
-due_read files class calls schedule texts result reads given =
-    let t = run_whole files class calls schedule texts reads in
-    IfOk-weaker result _ _ (λ a d. RunAnswers class calls schedule t.class t.calls t.schedule a.text a.status refl (subst (λ (w : List Text). Reads files (run_files class calls schedule) (AllRead w)) t.are reads) d)
-    (given t.class t.calls t.schedule t.are)
+-- Where the texts of a command were read, what they are due is due.
+pub due_read : (words : List Text) (files : Told) (command : Command) (class calls : Text) (third : Option Text) (texts : List Text) (result : Result Answer AllocError) → AreWords words command class calls third → Reads files (files_of class calls third) (AllRead texts)
+    → ((c k : Text) (o : Option Text) → texts ≡ texts_of c k o → IfOk result (λ a. DueForTexts c k command o a.status a.text)) → IfOk result (λ a. Due words files a.status a.text)
+due_read words files command class calls third texts result are reads given =
+    let t = files_whole files command class calls third texts are.takes reads in
+    IfOk-weaker result _ _ (λ a d. CommandAnswers command class calls third t.class t.calls t.third a.text a.status are (subst (λ (w : List Text). Reads files (files_of class calls third) (AllRead w)) t.are reads) d)
+    (given t.class t.calls t.third t.are)
 
 -- ---- what was read of files that tell their contents
 
@@ -109,22 +116,15 @@ told_unread files asked texts ending a all no_fault reads (NoRoom name s t) = lo
     long (TooLong n) same (Exceeds n' limit mine comes goes_on is_long) =
         told_short files.content comes.before comes.after n limit texts (subst (λ (w : List (Text × ℕ)). AreTold files.content w texts) comes.are all) is_long
 
--- the texts of a run are told
-pub told_run : (files : Told) (asked : List (Text × ℕ)) (texts others : List Text) → AreTold files.content asked texts → Reads files asked (AllRead others) → others ≡ texts
-told_run files asked texts others all reads = whole (AllRead others) refl reads.are
+-- the texts that were read are those that are told
+pub told_all : (files : Told) (asked : List (Text × ℕ)) (texts others : List Text) → AreTold files.content asked texts → Reads files asked (AllRead others) → others ≡ texts
+told_all files asked texts others all reads = whole (AllRead others) refl reads.are
   where
     whole : (ending : Ending) → ending ≡ AllRead others → ReadsOf files.content asked reads.calls ending → others ≡ texts
     whole (AllRead others') same (Whole ts read) = (let e : others ≡ others' = cc in e) ∙ told_texts files.content asked reads.calls texts others' all read
     whole (Unreadable name) same of = absurd cc
     whole (TooLong name) same of = absurd cc
     whole CutShort same of = absurd cc
-
--- words of a run name its files
-pub same_run : (class calls class' calls' : Text) (schedule schedule' : Option Text) → run_words class calls schedule ≡ run_words class' calls' schedule' → (class ≡ class') × (calls ≡ calls') × (schedule ≡ schedule')
-same_run class calls class' calls' None None is = (cc, cc, refl)
-same_run class calls class' calls' None (Some schedule') is = absurd cc
-same_run class calls class' calls' (Some schedule) None is = absurd cc
-same_run class calls class' calls' (Some schedule) (Some schedule') is = (cc, cc, cc)
 
 -- ---- which statuses are due
 
@@ -137,13 +137,29 @@ schedule_answer class calls o s t (RefusesSchedule text line rule broken) = inr 
 schedule_answer class calls o s t (ReportedSchedule text schedule report is reports) = inr (inr refl)
 schedule_answer class calls o s t (ReportedDefault report reports) = inr (inr refl)
 
-calls_answer : (class : StraightClass) (calls_text : Text) (o : Option Text) (s : Status) (t : Text) → DueForCalls class calls_text o s t → IsOfTexts s
-calls_answer class calls_text o s t (RefusesCalls line rule broken) = inr (inl refl)
-calls_answer class calls_text o s t (TakesCalls calls answer text are d) = schedule_answer class calls o s t d
+run_answer : (class : StraightClass) (calls_text : Text) (o : Option Text) (s : Status) (t : Text) → DueForRun class calls_text o s t → IsOfTexts s
+run_answer class calls_text o s t (RefusesCalls line rule broken) = inr (inl refl)
+run_answer class calls_text o s t (TakesCalls calls answer text are d) = schedule_answer class calls o s t d
 
-texts_answer : (class_text calls_text : Text) (o : Option Text) (s : Status) (t : Text) → DueForTexts class_text calls_text o s t → IsOfTexts s
-texts_answer class_text calls_text o s t (RefusesClass phase at refused) = inl refl
-texts_answer class_text calls_text o s t (TakesClass class answer text is proper only accepted d) = calls_answer class calls_text o s t d
+plain_answer : (class : Class) (calls_text : Text) (s : Status) (t : Text) → DueForPlain class calls_text s t → IsOfTexts s
+plain_answer class calls_text s t (RefusesPlainCalls line rule broken) = inr (inl refl)
+plain_answer class calls_text s t (RunsPlain calls are) = inr (inr refl)
+
+history_answer : (program : Program) (calls : List Call) (fields : List Field) (history_text : Text) (s : Status) (t : Text) → DueForHistory program calls fields history_text s t → IsOfTexts s
+history_answer program calls fields history_text s t (RefusesHistory line rule refused) = inr (inl refl)
+history_answer program calls fields history_text s t (RunsHistory replayed is) = inr (inr refl)
+
+replay_answer : (class : Class) (calls_text history_text : Text) (s : Status) (t : Text) → DueForReplay class calls_text history_text s t → IsOfTexts s
+replay_answer class calls_text history_text s t (RefusesReplayCalls line rule broken) = inr (inl refl)
+replay_answer class calls_text history_text s t (TakesReplayCalls calls answer text are d) = history_answer (program_of class) calls (fields_of class) history_text s t d
+
+texts_answer : (class_text calls_text : Text) (command : Command) (o : Option Text) (s : Status) (t : Text) → DueForTexts class_text calls_text command o s t → IsOfTexts s
+texts_answer class_text calls_text command o s t (RefusesClass command' o' phase at refused) = inl refl
+texts_answer class_text calls_text command o s t (RefusesForm schedule class accepts none) = inl refl
+texts_answer class_text calls_text command o s t (RunsForm schedule class answer text accepts proper d) = run_answer class calls_text schedule s t d
+texts_answer class_text calls_text command o s t (RefusesPartial class at accepts is) = inl refl
+texts_answer class_text calls_text command o s t (RunsWhole class answer text accepts whole d) = plain_answer class calls_text s t d
+texts_answer class_text calls_text command o s t (RunsAlong history class answer text accepts d) = replay_answer class calls_text history s t d
 
 no_read : (s : Status) → IsOfTexts s → s ≡ status.Read → ⊥
 no_read s (inl e) is = absurd cc
@@ -160,14 +176,14 @@ pub read_rises : (words : List Text) (files : Told) (s : Status) (t : Text) → 
 read_rises words files s t (NoCommand none reads) is = absurd cc
 read_rises words files s t (UnreadableFile asked name ask reads) is = reads.faults
 read_rises words files s t (LongFile asked name ask reads) is = absurd cc
-read_rises words files s t (RunAnswers class calls schedule class_text calls_text schedule_text text answer e reads d) is = absurd (no_read s (texts_answer class_text calls_text schedule_text s t d) is)
+read_rises words files s t (CommandAnswers command class calls third class_text calls_text third_text text answer are reads d) is = absurd (no_read s (texts_answer class_text calls_text command third_text s t d) is)
 
 -- where it is not told, no fault of the files rose
 pub read_or_stays : (words : List Text) (files : Told) (s : Status) (t : Text) → Due words files s t → (s ≡ status.Read) ⊎ (files.faults_after ≡ files.faults_before)
 read_or_stays words files s t (NoCommand none reads) = inr reads.faults
 read_or_stays words files s t (UnreadableFile asked name ask reads) = inl refl
 read_or_stays words files s t (LongFile asked name ask reads) = inr reads.faults
-read_or_stays words files s t (RunAnswers class calls schedule class_text calls_text schedule_text text answer e reads d) = inr reads.faults
+read_or_stays words files s t (CommandAnswers command class calls third class_text calls_text third_text text answer are reads d) = inr reads.faults
 
 pub unread : (words : List Text) (files : Told) (s : Status) (t : Text) → Due words files s t → files.faults_before < files.faults_after → s ≡ status.Read
 unread words files s t d rose = either (read_or_stays words files s t d)
@@ -181,7 +197,7 @@ pub not_write : (words : List Text) (files : Told) (s : Status) (t : Text) → D
 not_write words files s t (NoCommand none reads) is = absurd cc
 not_write words files s t (UnreadableFile asked name ask reads) is = absurd cc
 not_write words files s t (LongFile asked name ask reads) is = absurd cc
-not_write words files s t (RunAnswers class calls schedule class_text calls_text schedule_text text answer e reads d) is = no_write s (texts_answer class_text calls_text schedule_text s t d) is
+not_write words files s t (CommandAnswers command class calls third class_text calls_text third_text text answer are reads d) is = no_write s (texts_answer class_text calls_text command third_text s t d) is
 
 -- a prefix of a due text was written
 pub prefix_of_due : (words : List Text) (files : Told) (s : Status) (t : Text) (before after : Option Text) → Due words files s t → AppendsPrefix before after t → WritesPrefix words files before after

@@ -15,25 +15,22 @@ use Rattle.java_types.specs.Check.{findings_of, IsRefusal}
 use Rattle.java_flow.specs.declared.finding.Finding.{Finding as FlowFinding}
 use Rattle.java_flow.specs.Findings.{findings}
 use Rattle.annotations.specs.declared.checking.Refused.{Refused as RefusedAnnotation}
-use Rattle.early_forms.specs.declared.straight.StraightClass.{StraightClass}
-use Rattle.early_forms.specs.Trees.{class_tree}
-use Rattle.early_forms.specs.Names.{IsProper}
 use Rattle.sdg_top.specs.declared.accept.Phase.TheVariants as phase
 use Rattle.sdg_top.specs.declared.accept.Judgement.{Judgement}
 use Rattle.sdg_top.specs.declared.accept.Judgement.TheVariants.{Takes, Refuses}
-use Rattle.sdg_top.specs.Accepted.{Text, IsClassText, IsOnlyClass, IsAccepted, IsRefused, AtByte, AtNumber, AtComment, NoSyntax, AtType, AtUnreachable, AtMissingReturn, AtUnassigned, AtAnnotation, NoForm, annotation_findings}
+use Rattle.sdg_top.specs.Commands.{Text}
+use Rattle.sdg_top.specs.Accepted.{IsClassText, IsOnlyClass, IsAccepted, Accepts, IsRefused, AtByte, AtNumber, AtComment, NoSyntax, AtType, AtUnreachable, AtMissingReturn, AtUnassigned, AtAnnotation, annotated_of, annotation_findings}
 use Rattle.sdg_top.specs.Acceptance.{Judges, IsTaken, RefusesAt, HasTokens, JudgesTree, JudgesOnly, JudgesTokens}
 
 -- ---- a tree and its tokens
 
 pub tree_judged : (tokens : List Token) (tree : Class) (j : Judgement) → HasTokens tokens tree → ((other : Class) → HasTokens tokens other → other ≡ tree) → JudgesTree tree j → JudgesTokens tokens j
-tree_judged tokens tree (Takes c) has only h = record { tree = tree; has = has; only = only; judges = h }
+tree_judged tokens tree (Takes a) has only h = record { tree = tree; has = has; only = only; judges = h }
 tree_judged tokens tree (Refuses (phase.Type rule) at) has only h = record { tree = tree; has = has; only = only; judges = h }
 tree_judged tokens tree (Refuses phase.Unreachable at) has only h = record { tree = tree; has = has; only = only; judges = h }
 tree_judged tokens tree (Refuses phase.MissingReturn at) has only h = record { tree = tree; has = has; only = only; judges = h }
 tree_judged tokens tree (Refuses phase.Unassigned at) has only h = record { tree = tree; has = has; only = only; judges = h }
 tree_judged tokens tree (Refuses (phase.Annotation rule) at) has only h = record { tree = tree; has = has; only = only; judges = h }
-tree_judged tokens tree (Refuses phase.Form at) has only h = record { tree = tree; has = has; only = only; judges = h }
 tree_judged tokens tree (Refuses phase.Byte at) has only h = absurd h
 tree_judged tokens tree (Refuses phase.Number at) has only h = absurd h
 tree_judged tokens tree (Refuses phase.Comment at) has only h = absurd h
@@ -59,11 +56,9 @@ only_text : (text : Text) (tokens : List Token) (end : Place) (j : Judgement) �
 only_text text tokens end j spelled only h = (class_text text tokens end h.tree spelled h.has, λ other t. h.only other (has_tokens text tokens other only t))
 
 pub tokens_judged : (text : Text) (tokens : List Token) (end : Place) (j : Judgement) → Spells first_place tokens end text → AreOnlyTokens text tokens → JudgesTokens tokens j → Judges text j
-tokens_judged text tokens end (Takes c) spelled only h =
-    let is = only_text text tokens end (Takes c) spelled only h in
-    let P : Class → Type 0 = λ t. IsClassText text t × IsOnlyClass text t × IsAccepted t in
-    let all : P (class_tree c) = subst P h.judges.0 (is.0, is.1, h.judges.2) in
-    (all.0, h.judges.1, all.1, all.2)
+tokens_judged text tokens end (Takes a) spelled only h =
+    let is = only_text text tokens end (Takes a) spelled only h in
+    (h.tree, record { is_class = is.0; only = is.1; accepted = h.judges.0 }, h.judges.1)
 tokens_judged text tokens end (Refuses (phase.Type rule) at) spelled only h =
     let is = only_text text tokens end (Refuses (phase.Type rule) at) spelled only h in AtType h.tree rule at is.0 is.1 h.judges
 tokens_judged text tokens end (Refuses phase.Unreachable at) spelled only h =
@@ -74,9 +69,6 @@ tokens_judged text tokens end (Refuses phase.Unassigned at) spelled only h =
     let is = only_text text tokens end (Refuses phase.Unassigned at) spelled only h in AtUnassigned h.tree at is.0 is.1 h.judges.0 h.judges.1
 tokens_judged text tokens end (Refuses (phase.Annotation rule) at) spelled only h =
     let is = only_text text tokens end (Refuses (phase.Annotation rule) at) spelled only h in AtAnnotation h.tree rule at is.0 is.1 h.judges.0 h.judges.1 h.judges.2
-tokens_judged text tokens end (Refuses phase.Form at) spelled only h =
-    let is = only_text text tokens end (Refuses phase.Form at) spelled only h in
-    at_first text (codes "form") at h.judges.0 (NoForm h.tree is.0 is.1 h.judges.1 h.judges.2)
 tokens_judged text tokens end (Refuses phase.Syntax at) spelled only (is, none) =
     at_first text (codes "syntax") at is (NoSyntax tokens end spelled (λ class h. none class (has_tokens text tokens class only h)))
 tokens_judged text tokens end (Refuses phase.Byte at) spelled only h = absurd h.judges
@@ -94,25 +86,24 @@ no_flow tree f none has = let P : List FlowFinding → Type 0 = λ all. Contains
 no_annotation : (tree : Class) (f : RefusedAnnotation) → annotation_findings tree ≡ [] → Contains (annotation_findings tree) f → ⊥
 no_annotation tree f none has = let P : List RefusedAnnotation → Type 0 = λ all. Contains all f in let e : P [] = subst P none has in omega (arith, e.1)
 
--- the text of an accepted class of the form is taken
-pub tokens_taken : (text : Text) (tokens : List Token) (class : StraightClass) (j : Judgement) → AreOnlyTokens text tokens → IsClassText text (class_tree class) → IsProper class → IsAccepted (class_tree class) → JudgesTokens tokens j → IsTaken class j
-tokens_taken text tokens class (Takes c) only is proper accepted h = sym h.judges.0 ∙ sym (h.only (class_tree class) (has_tokens text tokens (class_tree class) only is))
-tokens_taken text tokens class (Refuses (phase.Type rule) at) only is proper accepted h =
-    let same = subst IsAccepted (h.only (class_tree class) (has_tokens text tokens (class_tree class) only is)) accepted in no_finding h.tree rule at same.typed h.judges
-tokens_taken text tokens class (Refuses phase.Unreachable at) only is proper accepted h =
-    let same = subst IsAccepted (h.only (class_tree class) (has_tokens text tokens (class_tree class) only is)) accepted in no_flow h.tree _ same.flows h.judges.1.is_one
-tokens_taken text tokens class (Refuses phase.MissingReturn at) only is proper accepted h =
-    let same = subst IsAccepted (h.only (class_tree class) (has_tokens text tokens (class_tree class) only is)) accepted in no_flow h.tree _ same.flows h.judges.1.is_one
-tokens_taken text tokens class (Refuses phase.Unassigned at) only is proper accepted h =
-    let same = subst IsAccepted (h.only (class_tree class) (has_tokens text tokens (class_tree class) only is)) accepted in no_flow h.tree _ same.flows h.judges.1.is_one
-tokens_taken text tokens class (Refuses (phase.Annotation rule) at) only is proper accepted h =
-    let same = subst IsAccepted (h.only (class_tree class) (has_tokens text tokens (class_tree class) only is)) accepted in no_annotation h.tree _ same.annotated h.judges.2.is_one
-tokens_taken text tokens class (Refuses phase.Form at) only is proper accepted h =
-    h.judges.2 (class, sym (h.only (class_tree class) (has_tokens text tokens (class_tree class) only is)), proper)
-tokens_taken text tokens class (Refuses phase.Syntax at) only is proper accepted (e, none) = none (class_tree class) (has_tokens text tokens (class_tree class) only is)
-tokens_taken text tokens class (Refuses phase.Byte at) only is proper accepted h = absurd h.judges
-tokens_taken text tokens class (Refuses phase.Number at) only is proper accepted h = absurd h.judges
-tokens_taken text tokens class (Refuses phase.Comment at) only is proper accepted h = absurd h.judges
+-- the text of an accepted class is taken
+pub tokens_taken : (text : Text) (tokens : List Token) (class : Class) (j : Judgement) → AreOnlyTokens text tokens → IsClassText text class → IsAccepted class → JudgesTokens tokens j → IsTaken class j
+tokens_taken text tokens class (Takes a) only is accepted h =
+    let P : Class → Type 0 = λ c. a ≡ annotated_of c in subst P (sym (h.only class (has_tokens text tokens class only is))) h.judges.1
+tokens_taken text tokens class (Refuses (phase.Type rule) at) only is accepted h =
+    let same = subst IsAccepted (h.only class (has_tokens text tokens class only is)) accepted in no_finding h.tree rule at same.typed h.judges
+tokens_taken text tokens class (Refuses phase.Unreachable at) only is accepted h =
+    let same = subst IsAccepted (h.only class (has_tokens text tokens class only is)) accepted in no_flow h.tree _ same.flows h.judges.1.is_one
+tokens_taken text tokens class (Refuses phase.MissingReturn at) only is accepted h =
+    let same = subst IsAccepted (h.only class (has_tokens text tokens class only is)) accepted in no_flow h.tree _ same.flows h.judges.1.is_one
+tokens_taken text tokens class (Refuses phase.Unassigned at) only is accepted h =
+    let same = subst IsAccepted (h.only class (has_tokens text tokens class only is)) accepted in no_flow h.tree _ same.flows h.judges.1.is_one
+tokens_taken text tokens class (Refuses (phase.Annotation rule) at) only is accepted h =
+    let same = subst IsAccepted (h.only class (has_tokens text tokens class only is)) accepted in no_annotation h.tree _ same.annotated h.judges.2.is_one
+tokens_taken text tokens class (Refuses phase.Syntax at) only is accepted (e, none) = none class (has_tokens text tokens class only is)
+tokens_taken text tokens class (Refuses phase.Byte at) only is accepted h = absurd h.judges
+tokens_taken text tokens class (Refuses phase.Number at) only is accepted h = absurd h.judges
+tokens_taken text tokens class (Refuses phase.Comment at) only is accepted h = absurd h.judges
 
 -- ---- errors
 

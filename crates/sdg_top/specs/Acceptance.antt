@@ -14,15 +14,12 @@ use Rattle.java_flow.specs.declared.error.FlowError.TheVariants.{Unreachable, Mi
 use Rattle.java_flow.specs.Findings.{findings, Refuses as RefusesFlow}
 use Rattle.annotations.specs.declared.error.AnnotError.TheVariants.{Rule as AnnotationRule}
 use Rattle.annotations.specs.Check.{Refuses as RefusesAnnotation}
-use Rattle.early_forms.specs.declared.straight.StraightClass.{StraightClass}
-use Rattle.early_forms.specs.Trees.{class_tree}
-use Rattle.early_forms.specs.Names.{IsProper}
-use Rattle.early_forms.specs.Forms.{IsStraightForm}
 use Rattle.sdg_top.specs.declared.accept.Phase.{Phase}
 use Rattle.sdg_top.specs.declared.accept.Phase.TheVariants as phase
 use Rattle.sdg_top.specs.declared.accept.Judgement.{Judgement}
 use Rattle.sdg_top.specs.declared.accept.Judgement.TheVariants.{Takes, Refuses}
-use Rattle.sdg_top.specs.Accepted.{Text, IsClassText, IsOnlyClass, IsAccepted, IsRefused, type_phase, annotation_phase, annotation_findings}
+use Rattle.sdg_top.specs.Commands.{Text}
+use Rattle.sdg_top.specs.Accepted.{Accepts, IsAccepted, IsRefused, annotated_of, type_phase, annotation_phase, annotation_findings}
 
 abbrev pub phase_text : Phase → Text
 phase_text phase.Byte = codes "byte"
@@ -34,16 +31,15 @@ phase_text phase.Unreachable = codes "flow 1"
 phase_text phase.MissingReturn = codes "flow 2"
 phase_text phase.Unassigned = codes "flow 3"
 phase_text (phase.Annotation rule) = annotation_phase rule
-phase_text phase.Form = codes "form"
 
--- the class is the one that a text writes, accepted and of the form; or the text is refused
+-- the class is the one that a text writes, accepted; or the text is refused
 abbrev pub Judges : Text → Judgement → Type 0
-Judges text (Takes c) = IsClassText text (class_tree c) × IsProper c × IsOnlyClass text (class_tree c) × IsAccepted (class_tree c)
+Judges text (Takes a) = (class : Class) × Accepts text class × (a ≡ annotated_of class)
 Judges text (Refuses phase at) = IsRefused text (phase_text phase) at
 
 -- the text is taken as this class
-abbrev pub IsTaken : StraightClass → Judgement → Type 0
-IsTaken class (Takes c) = class_tree c ≡ class_tree class
+abbrev pub IsTaken : Class → Judgement → Type 0
+IsTaken class (Takes a) = a ≡ annotated_of class
 IsTaken class (Refuses phase at) = ⊥
 
 -- the refusal that an error of the lexer is
@@ -64,13 +60,12 @@ pub record HasTokens (tokens : List Token) (class : Class) : Type 0 where
 -- ---- the same of a tree
 
 abbrev pub JudgesTree : Class → Judgement → Type 0
-JudgesTree tree (Takes c) = (tree ≡ class_tree c) × IsProper c × IsAccepted tree
+JudgesTree tree (Takes a) = IsAccepted tree × (a ≡ annotated_of tree)
 JudgesTree tree (Refuses (phase.Type rule) at) = IsRefusal tree (Rule rule at)
 JudgesTree tree (Refuses phase.Unreachable at) = (findings_of tree ≡ []) × RefusesFlow (findings tree) (Unreachable at)
 JudgesTree tree (Refuses phase.MissingReturn at) = (findings_of tree ≡ []) × RefusesFlow (findings tree) (MissingReturn at)
 JudgesTree tree (Refuses phase.Unassigned at) = (findings_of tree ≡ []) × RefusesFlow (findings tree) (Unassigned at)
 JudgesTree tree (Refuses (phase.Annotation rule) at) = (findings_of tree ≡ []) × (findings tree ≡ []) × RefusesAnnotation (annotation_findings tree) (AnnotationRule rule at)
-JudgesTree tree (Refuses phase.Form at) = (at ≡ first_place) × IsAccepted tree × (IsStraightForm tree → ⊥)
 JudgesTree tree (Refuses _ at) = ⊥
 
 -- there is one tree with these tokens, and it is judged; or there is none

@@ -1,13 +1,10 @@
--- Which texts are accepted, why a class is refused, and the report that an accepted class's calls are due.
-use Rattle.std.specs.Prelude.{◌≡◌, ℕ, ◌≤◌, List, [], ◌++◌, map, codes, decimal}
+-- Which texts are accepted, why a class is refused, and the report that the calls of an accepted class are due.
+use Rattle.std.specs.Prelude.{◌≡◌, ℕ, ◌≤◌, List, [], ◌++◌, codes, decimal}
 use Rattle.sdg_base.specs.declared.call.Call.{Call}
 use Rattle.java_tree.specs.declared.token.Place.{Place}
 use Rattle.java_tree.specs.declared.token.Token.{Token}
 use Rattle.java_tree.specs.declared.tree.Class.{Class}
-use Rattle.java_tree.specs.declared.tree.Method.{Method}
-use Rattle.java_tree.specs.declared.tree.TypeName.{TypeName}
 use Rattle.java_tree.specs.declared.types.Typed.{Typed}
-use Rattle.java_tree.specs.declared.tree.TypeName.TheVariants as type_name
 use Rattle.java_tree.specs.Tokens.{tokens_of}
 use Rattle.java_tree.specs.Placed.{IsWellPlaced}
 use Rattle.java_tree.specs.Heights.{height, max_levels}
@@ -20,27 +17,25 @@ use Rattle.java_flow.specs.declared.error.FlowError.TheVariants.{Unreachable, Mi
 use Rattle.java_flow.specs.Findings.{findings, Refuses as RefusesFlow}
 use Rattle.annotations.specs.declared.checking.Refused.{Refused as RefusedAnnotation}
 use Rattle.annotations.specs.declared.error.AnnotError.TheVariants.{Rule as AnnotationRule}
-use Rattle.annotations.specs.Check.{findings_of as findings_of_annotations, Refuses as RefusesAnnotation}
+use Rattle.annotations.specs.declared.class.Annotated.{Annotated}
+use Rattle.annotations.specs.Kinds.{kinds_of}
+use Rattle.annotations.specs.Check.{findings_of as findings_of_annotations, Refuses as RefusesAnnotation, sites_of, first_partial}
+use Rattle.access_blocks.specs.declared.body.Program.{Program}
+use Rattle.access_blocks.specs.Programs.{program_of as program_of_annotated}
 use Rattle.early_forms.specs.declared.straight.StraightClass.{StraightClass}
 use Rattle.early_forms.specs.Trees.{class_tree}
-use Rattle.early_forms.specs.Forms.{IsStraightForm}
-use Rattle.early_source.specs.Members.{fields, methods}
+use Rattle.early_source.specs.Members.{fields}
 use Rattle.early_source.specs.Serial.{IsSerial}
 use Rattle.placement.specs.declared.event.Header.{Header}
 use Rattle.placement.specs.declared.event.Schedule.{Schedule}
-use Rattle.run_text.specs.declared.entrance.ValueType.{ValueType}
-use Rattle.run_text.specs.declared.entrance.ValueType.TheVariants as value_type
-use Rattle.run_text.specs.declared.entrance.Entrance.{Entrance}
 use Rattle.early_cutter.specs.Runs.{setup_of, ArePlainResults, ArePlainInOrder}
 use Rattle.cluster.specs.History.{steps_of}
 use Rattle.cluster.specs.World.{World, first_world, words_of, world_of, results_of, kept}
 use Rattle.agreement.specs.Results.{RunAgrees}
 use Rattle.agreement.specs.Again.{RunsAgain}
 use Rattle.agreement.specs.Kept.{KeepsItsSteps}
+use Rattle.sdg_top.specs.Commands.{Text}
 use Rattle.sdg_top.specs.Report.{report_text}
-
-abbrev pub Text : Type 0
-Text = List ℕ
 
 -- ---- classes
 
@@ -77,7 +72,21 @@ type_phase rule = codes "type " ++ decimal rule
 abbrev pub annotation_phase : ℕ → Text
 annotation_phase rule = codes "annotation " ++ decimal rule
 
--- Why a class text is refused: the first phase that finds it wrong, and where. Syntax and form name the first place of a text.
+-- the class, and no other, has this text, and it breaks no rule
+pub record Accepts (text : Text) (class : Class) : Type 0 where
+  pub is_class : IsClassText text class
+  pub only : IsOnlyClass text class
+  pub accepted : IsAccepted class
+
+-- the class with its types, the kinds of its fields and its sites
+abbrev pub annotated_of : Class → Annotated
+annotated_of class = record { typed = typed_of class; kinds = kinds_of class; sites = sites_of (typed_of class); partial = first_partial (typed_of class) }
+
+-- its methods and fields, resolved
+abbrev pub program_of : Class → Program
+program_of class = program_of_annotated (annotated_of class)
+
+-- Why a class text is refused, whatever the command: the first phase that finds it wrong, and where. Syntax names the first place of a text.
 pub data IsRefused (text : Text) : Text → Place → Type 0 where
   -- a byte with which nothing begins
   AtByte : (at : Place) → Refuses first_place text (BadByte at) → IsRefused text (codes "byte") at
@@ -97,23 +106,6 @@ pub data IsRefused (text : Text) : Text → Place → Type 0 where
   -- one that breaks no rule on types and on the flow of statements, and this rule on annotations first
   AtAnnotation : (class : Class) (rule : ℕ) (at : Place) → IsClassText text class → IsOnlyClass text class → findings_of class ≡ [] → findings class ≡ [] → RefusesAnnotation (annotation_findings class) (AnnotationRule rule at)
       → IsRefused text (annotation_phase rule) at
-  -- one that is accepted, but not of the form that runs
-  NoForm : (class : Class) → IsClassText text class → IsOnlyClass text class → IsAccepted class → (IsStraightForm class → ⊥) → IsRefused text (codes "form") first_place
-
--- ---- the methods as a caller sees them
-
-abbrev pub value_type_of : TypeName → ValueType
-value_type_of type_name.Int = value_type.Int
-value_type_of type_name.Long = value_type.Long
-value_type_of type_name.Boolean = value_type.Boolean
-value_type_of (type_name.Named name) = value_type.Vector
-
-abbrev pub entrance_of : Method → Entrance
-entrance_of m = record { name = m.name; parameters = map (λ p. value_type_of p.type_name) m.params }
-
--- The methods by number. A class of the form has at most 65,536.
-abbrev pub entrances_of : Class → List Entrance
-entrances_of class = map entrance_of (methods class)
 
 -- ---- the report
 

@@ -3,36 +3,41 @@ use Rattle.std.specs.Prelude.{◌≡◌, ◌≢◌, ℕ, ◌-◌, ◌^◌, ◌<�
 use Rattle.std.specs.Str.Lines.{lines}
 use Rattle.sdg_base.specs.declared.call.Call.{Call}
 use Rattle.java_tree.specs.declared.token.Place.{Place}
+use Rattle.java_tree.specs.declared.tree.Class.{Class}
+use Rattle.java_lexer.specs.Places.{first_place}
+use Rattle.annotations.specs.Check.{first_partial}
+use Rattle.access_blocks.specs.declared.body.Program.{Program}
+use Rattle.plain_java.specs.Plain.{plain}
+use Rattle.history_run.specs.declared.replayed.Replayed.{Replayed}
+use Rattle.history_run.specs.Replays.{IsReplayed, IsRefusedLine}
 use Rattle.early_forms.specs.declared.straight.StraightClass.{StraightClass}
+use Rattle.early_forms.specs.Forms.{IsStraightForm}
 use Rattle.early_forms.specs.Names.{IsProper}
 use Rattle.early_forms.specs.Trees.{class_tree}
 use Rattle.placement.specs.declared.event.Schedule.{Schedule as Events}
 use Rattle.placement.specs.Defaults.{default_schedule}
+use Rattle.run_text.specs.declared.field.Field.{Field}
 use Rattle.run_text.specs.Calls.{AreCalls, IsFirstBreak}
 use Rattle.run_text.specs.Schedules.{IsSchedule, IsFirstScheduleBreak}
 use Rattle.sdg_keep.specs.Writes.{Appends}
 use Rattle.sdg_keep.specs.Endings.{Ending, AllRead, Unreadable, TooLong, Told, Reads}
-use Rattle.sdg_top.specs.declared.lines.InputText.TheVariants.{Calls, Schedule}
+use Rattle.sdg_top.specs.declared.command.Command.{Command}
+use Rattle.sdg_top.specs.declared.command.Command.TheVariants.{Run, Plain, Replay}
+use Rattle.sdg_top.specs.declared.lines.InputText.TheVariants.{Calls, Schedule, History}
 use Rattle.sdg_top.specs.declared.status.Status.{Status}
 use Rattle.sdg_top.specs.declared.status.Status.TheVariants as status
+use Rattle.sdg_top.specs.Commands.{Text, calls_limit, files_of, texts_of, AreWords, AreNoCommand}
+use Rattle.sdg_top.specs.Entrances.{entrances_of, fields_of}
 use Rattle.sdg_top.specs.Answers.{usage_line, class_refused_line, text_refused_line, unreadable_line, too_long_line}
-use Rattle.sdg_top.specs.Accepted.{Text, IsClassText, IsOnlyClass, IsAccepted, IsRefused, entrances_of, IsReport}
+use Rattle.sdg_top.specs.Accepted.{IsClassText, IsAccepted, Accepts, IsRefused, typed_of, program_of, IsReport}
+use Rattle.sdg_top.specs.Replies.{plain_text, replay_text}
 
--- ---- limits, in bytes
-
-abbrev pub class_limit : ℕ
-class_limit = 1048576
-
--- of the calls file and of the schedule file
-abbrev pub calls_limit : ℕ
-calls_limit = 16777216
-
--- a schedule's text within the limit, if there is one
+-- a third file's text within the limit, if there is one
 abbrev pub IsShort : Option Text → Type 0
 IsShort None = Unit {0}
 IsShort (Some text) = length text ≤ calls_limit
 
--- ---- what the texts of an accepted class, of calls and of a schedule are due
+-- ---- `run`: what the texts of a class of the form, of calls and of a schedule are due
 
 -- no schedule is the default one
 pub data DueForSchedule (class : StraightClass) (calls : List Call) : Option Text → Status → Text → Type 0 where
@@ -41,44 +46,57 @@ pub data DueForSchedule (class : StraightClass) (calls : List Call) : Option Tex
   ReportedSchedule : (text : Text) (schedule : Events) (report : Text) → IsSchedule class.fields (lines text) schedule → IsReport class calls schedule report → DueForSchedule class calls (Some text) status.Done report
   ReportedDefault : (report : Text) → IsReport class calls default_schedule report → DueForSchedule class calls None status.Done report
 
-pub data DueForCalls (class : StraightClass) (calls_text : Text) (schedule_text : Option Text) : Status → Text → Type 0 where
+pub data DueForRun (class : StraightClass) (calls_text : Text) (schedule_text : Option Text) : Status → Text → Type 0 where
   -- the first line of the calls that breaks a rule, with the least rule that it breaks
-  RefusesCalls : (line rule : ℕ) → IsFirstBreak (entrances_of (class_tree class)) (lines calls_text) line rule → DueForCalls class calls_text schedule_text status.Text (text_refused_line Calls line rule)
+  RefusesCalls : (line rule : ℕ) → IsFirstBreak (entrances_of (class_tree class)) (lines calls_text) line rule → DueForRun class calls_text schedule_text status.Text (text_refused_line Calls line rule)
   TakesCalls : (calls : List Call) (answer : Status) (text : Text) → AreCalls (entrances_of (class_tree class)) (lines calls_text) calls → DueForSchedule class calls schedule_text answer text
-      → DueForCalls class calls_text schedule_text answer text
+      → DueForRun class calls_text schedule_text answer text
+
+-- ---- `plain`: what the texts of an accepted class without partial fields and of calls are due
+
+pub data DueForPlain (class : Class) (calls_text : Text) : Status → Text → Type 0 where
+  RefusesPlainCalls : (line rule : ℕ) → IsFirstBreak (entrances_of class) (lines calls_text) line rule → DueForPlain class calls_text status.Text (text_refused_line Calls line rule)
+  -- each call ends as plain Java has it
+  RunsPlain : (calls : List Call) → AreCalls (entrances_of class) (lines calls_text) calls → DueForPlain class calls_text status.Done (plain_text (plain (program_of class) calls))
+
+-- ---- `replay`: what the texts of an accepted class, of calls and of a history are due
+
+pub data DueForHistory (program : Program) (calls : List Call) (fields : List Field) (history_text : Text) : Status → Text → Type 0 where
+  -- the first line that breaks a rule of its text, or whose step is not its call's next
+  RefusesHistory : (line rule : ℕ) → IsRefusedLine program calls fields (lines history_text) line rule → DueForHistory program calls fields history_text status.Text (text_refused_line History line rule)
+  -- each call that ends does so as the annotated source has it, stepped along the history
+  RunsHistory : (replayed : Replayed) → IsReplayed program calls fields (lines history_text) replayed → DueForHistory program calls fields history_text status.Done (replay_text replayed.results replayed.steps)
+
+pub data DueForReplay (class : Class) (calls_text history_text : Text) : Status → Text → Type 0 where
+  RefusesReplayCalls : (line rule : ℕ) → IsFirstBreak (entrances_of class) (lines calls_text) line rule → DueForReplay class calls_text history_text status.Text (text_refused_line Calls line rule)
+  TakesReplayCalls : (calls : List Call) (answer : Status) (text : Text) → AreCalls (entrances_of class) (lines calls_text) calls → DueForHistory (program_of class) calls (fields_of class) history_text answer text
+      → DueForReplay class calls_text history_text answer text
 
 -- ---- what the texts are due
 
-pub data DueForTexts (class_text calls_text : Text) (schedule_text : Option Text) : Status → Text → Type 0 where
+-- The third text is a schedule under `run`, and a history under `replay`.
+pub data DueForTexts (class_text calls_text : Text) : Command → Option Text → Status → Text → Type 0 where
   -- the class is refused by this phase at this place
-  RefusesClass : (phase : Text) (at : Place) → IsRefused class_text phase at → DueForTexts class_text calls_text schedule_text status.Class (class_refused_line phase at.line at.column)
-  -- one class has this text, and no other, and it is accepted and of the form that runs
-  TakesClass : (class : StraightClass) (answer : Status) (text : Text) → IsClassText class_text (class_tree class) → IsProper class → IsOnlyClass class_text (class_tree class) → IsAccepted (class_tree class) → DueForCalls class calls_text schedule_text answer text
-      → DueForTexts class_text calls_text schedule_text answer text
+  RefusesClass : (command : Command) (third : Option Text) (phase : Text) (at : Place) → IsRefused class_text phase at
+      → DueForTexts class_text calls_text command third status.Class (class_refused_line phase at.line at.column)
+  -- it is accepted, but not of the form that runs
+  RefusesForm : (schedule : Option Text) (class : Class) → Accepts class_text class → (IsStraightForm class → ⊥)
+      → DueForTexts class_text calls_text Run schedule status.Class (class_refused_line (codes "form") first_place.line first_place.column)
+  RunsForm : (schedule : Option Text) (class : StraightClass) (answer : Status) (text : Text) → Accepts class_text (class_tree class) → IsProper class → DueForRun class calls_text schedule answer text
+      → DueForTexts class_text calls_text Run schedule answer text
+  -- it is accepted, and the first partial field begins at this place
+  RefusesPartial : (class : Class) (at : Place) → Accepts class_text class → first_partial (typed_of class) ≡ Some at
+      → DueForTexts class_text calls_text Plain None status.Class (class_refused_line (codes "plain") at.line at.column)
+  RunsWhole : (class : Class) (answer : Status) (text : Text) → Accepts class_text class → first_partial (typed_of class) ≡ None → DueForPlain class calls_text answer text
+      → DueForTexts class_text calls_text Plain None answer text
+  RunsAlong : (history : Text) (class : Class) (answer : Status) (text : Text) → Accepts class_text class → DueForReplay class calls_text history answer text
+      → DueForTexts class_text calls_text Replay (Some history) answer text
 
 -- ---- which files words name
 
-abbrev pub run_words : Text → Text → Option Text → List Text
-run_words class calls None = codes "run" ∷ class ∷ calls ∷ []
-run_words class calls (Some schedule) = codes "run" ∷ class ∷ calls ∷ schedule ∷ []
-
--- the files of a run in the order of the words, each with the most bytes that it may have
-abbrev pub run_files : Text → Text → Option Text → List (Text × ℕ)
-run_files class calls None = (class, class_limit) ∷ (calls, calls_limit) ∷ []
-run_files class calls (Some schedule) = (class, class_limit) ∷ (calls, calls_limit) ∷ (schedule, calls_limit) ∷ []
-
--- their texts
-abbrev pub run_texts : Text → Text → Option Text → List Text
-run_texts class calls None = class ∷ calls ∷ []
-run_texts class calls (Some schedule) = class ∷ calls ∷ schedule ∷ []
-
--- the words are of no command
-abbrev pub AreNoCommand : List Text → Type 0
-AreNoCommand words = (class calls : Text) (schedule : Option Text) → words ≡ run_words class calls schedule → ⊥
-
 -- the files for which the words ask, none where they are of no command
 pub data AskFor (words : List Text) : List (Text × ℕ) → Type 0 where
-  RunAsks : (class calls : Text) (schedule : Option Text) → words ≡ run_words class calls schedule → AskFor words (run_files class calls schedule)
+  CommandAsks : (command : Command) (class calls : Text) (third : Option Text) → AreWords words command class calls third → AskFor words (files_of class calls third)
   NoneAsks : AreNoCommand words → AskFor words []
 
 -- the files for which the words ask were read in their order up to some end, and no others
@@ -95,8 +113,8 @@ pub data Due (words : List Text) (files : Told) : Status → Text → Type 0 whe
   -- a file gave more bytes than its limit, once those before it were read
   LongFile : (asked : List (Text × ℕ)) (name : Text) → AskFor words asked → Reads files asked (TooLong name) → Due words files status.TooLong (too_long_line name)
   -- every file was read to its end
-  RunAnswers : (class calls : Text) (schedule : Option Text) (class_text calls_text : Text) (schedule_text : Option Text) (text : Text) (answer : Status) → words ≡ run_words class calls schedule
-      → Reads files (run_files class calls schedule) (AllRead (run_texts class_text calls_text schedule_text)) → DueForTexts class_text calls_text schedule_text answer text → Due words files answer text
+  CommandAnswers : (command : Command) (class calls : Text) (third : Option Text) (class_text calls_text : Text) (third_text : Option Text) (text : Text) (answer : Status) → AreWords words command class calls third
+      → Reads files (files_of class calls third) (AllRead (texts_of class_text calls_text third_text)) → DueForTexts class_text calls_text command third_text answer text → Due words files answer text
 
 -- ---- what is written
 
@@ -118,7 +136,7 @@ IsValidSchedule class None = Unit {0}
 IsValidSchedule class (Some text) = (schedule : Events) × IsSchedule class.fields (lines text) schedule
 
 -- the text of an accepted class of the form, of calls of it, and of a schedule, if there is one
-pub record AreValid (class_text calls_text : Text) (schedule_text : Option Text) : Type 0 where
+pub record AreValidForRun (class_text calls_text : Text) (schedule_text : Option Text) : Type 0 where
   pub class : StraightClass
   pub is_class : IsClassText class_text (class_tree class)
   pub proper : IsProper class
@@ -127,23 +145,49 @@ pub record AreValid (class_text calls_text : Text) (schedule_text : Option Text)
   pub are_calls : AreCalls (entrances_of (class_tree class)) (lines calls_text) calls
   pub schedule : IsValidSchedule class schedule_text
 
+-- the text of an accepted class without partial fields, and of calls of it
+pub record AreValidForPlain (class_text calls_text : Text) : Type 0 where
+  pub class : Class
+  pub is_class : IsClassText class_text class
+  pub accepted : IsAccepted class
+  pub whole : first_partial (typed_of class) ≡ None
+  pub calls : List Call
+  pub are_calls : AreCalls (entrances_of class) (lines calls_text) calls
+
+-- the text of an accepted class, of calls of it, and of a history in which each step is its call's next
+pub record AreValidForReplay (class_text calls_text history_text : Text) : Type 0 where
+  pub class : Class
+  pub is_class : IsClassText class_text class
+  pub accepted : IsAccepted class
+  pub calls : List Call
+  pub are_calls : AreCalls (entrances_of class) (lines calls_text) calls
+  pub replayed : Replayed
+  pub is_replayed : IsReplayed (program_of class) calls (fields_of class) (lines history_text) replayed
+
+abbrev pub AreValid : Command → Text → Text → Option Text → Type 0
+AreValid Run class_text calls_text schedule_text = AreValidForRun class_text calls_text schedule_text
+AreValid Plain class_text calls_text third_text = AreValidForPlain class_text calls_text
+AreValid Replay class_text calls_text None = ⊥
+AreValid Replay class_text calls_text (Some history_text) = AreValidForReplay class_text calls_text history_text
+
 -- the contents of the files are told, within their limits
 abbrev pub AreTold : (Text → Option Text) → List (Text × ℕ) → List Text → Type 0
 AreTold content [] [] = Unit {0}
 AreTold content (file ∷ files) (text ∷ texts) = (content file.0 ≡ Some text) × (length text ≤ file.1) × AreTold content files texts
 AreTold content _ _ = ⊥
 
--- the words, the class, the calls and the schedule are in order, and the files tell their contents
+-- the words are a command whose texts are in order, and the files tell their contents
 pub record IsValid (words : List Text) (content : Text → Option Text) : Type 0 where
+  pub command : Command
   pub class : Text
   pub calls : Text
-  pub schedule : Option Text
-  pub words_are : words ≡ run_words class calls schedule
+  pub third : Option Text
+  pub are_words : AreWords words command class calls third
   pub class_text : Text
   pub calls_text : Text
-  pub schedule_text : Option Text
-  pub told : AreTold content (run_files class calls schedule) (run_texts class_text calls_text schedule_text)
-  pub in_order : AreValid class_text calls_text schedule_text
+  pub third_text : Option Text
+  pub told : AreTold content (files_of class calls third) (texts_of class_text calls_text third_text)
+  pub in_order : AreValid command class_text calls_text third_text
 
 -- no fault rose: the count stands where it stood, below its end
 pub record NoFault (before after : ℕ) : Type 0 where

@@ -1,9 +1,12 @@
 pub mod Acceptance
 pub mod Accepted
 pub mod Answers
+pub mod Called
 pub mod Codes
+pub mod Commands
 pub mod Due
 pub mod Entrances
 pub mod Read
+pub mod Replies
 pub mod Report
 pub mod Texts

@@ -1,25 +1,19 @@
-//! The class that a text writes, or why it is refused, and its methods as a caller sees them.
+//! The class that a text writes, or why it is refused.
 
 ghost use Rattle.std.specs.Prelude.{◌≡◌, ◌≤◌, [], length, IfOk};
 ghost use Rattle.std.specs.String.{string_bytes};
 ghost use Rattle.java_types.specs.Check.{findings_of, types_of};
 ghost use Rattle.java_flow.specs.Findings.{findings as flow_findings};
-ghost use Rattle.early_forms.specs.declared.straight.StraightClass.{StraightClass as ClassOf};
-ghost use Rattle.early_forms.specs.Trees.{class_tree};
-ghost use Rattle.early_forms.specs.Names.{IsProper};
-ghost use Rattle.sdg_top.specs.Accepted.{IsClassText, IsAccepted, entrances_of};
+ghost use Rattle.java_tree.specs.declared.tree.Class.{Class as ClassOf};
+ghost use Rattle.sdg_top.specs.Accepted.{IsClassText, IsAccepted};
 ghost use Rattle.sdg_top.specs.Acceptance.{phase_text, Judges, IsTaken, RefusesAt, JudgesTree, JudgesTokens};
-ghost use Rattle.sdg_top.specs.Entrances.{straight_entrance};
 
-use annotations::{AnnotError, annotated};
-use early_forms::{StraightClass, StraightMethod, straight_form};
+use annotations::{AnnotError, Annotated, annotated};
 use java_flow::{FlowError, flow};
 use java_lexer::{LexError, lex};
 use java_parser::{ParseError, parse};
 use java_tree::{Class, Place, Tokens, Typed};
 use java_types::{TypeError, check};
-use run_text::{Entrance, ValueType};
-use sqlite_items::Items;
 use std::alloc::{AllocError, Global};
 
 /// The phases in which a class is judged, in their order. A rule on types or on annotations has its number.
@@ -34,7 +28,6 @@ pub(crate) enum Phase {
     MissingReturn,
     Unassigned,
     Annotation(u8),
-    Form,
 }
 
 impl Phase {
@@ -52,31 +45,19 @@ impl Phase {
             Phase::MissingReturn => String::from_str(alloc, "flow 2"),
             Phase::Unassigned => String::from_str(alloc, "flow 3"),
             Phase::Annotation(rule) => format!(in alloc; "annotation {rule}"),
-            Phase::Form => String::from_str(alloc, "form"),
         }
     }
 }
 
-/// A class of the form that runs, or the phase and the place of a refusal.
+/// An accepted class, or the phase and the place of a refusal.
 #[derive(Drop)]
 pub(crate) enum Judgement {
-    Takes(StraightClass),
+    Takes(Annotated),
     Refuses(Phase, Place),
 }
 
-/// Where the phases stand that name no place of their own.
-const FIRST: Place = Place { line: 1, column: 1 };
-
-/// Judges an accepted class.
-fn judge_form(alloc: Global, tree: &Class) -> Result<Judgement, AllocError>
-    requires { IsAccepted tree.now }
-    ensures { IfOk result (JudgesTree tree.now) }
-{
-    match straight_form(alloc, tree)? {
-        Some(class) => Ok(Judgement::Takes(class)),
-        None => Ok(Judgement::Refuses(Phase::Form, FIRST)),
-    }
-}
+/// Where phases stand that name no place of their own.
+pub(crate) const FIRST: Place = Place { line: 1, column: 1 };
 
 /// Judges a class that breaks no rule on types or on the flow of statements.
 fn judge_annotations(alloc: Global, typed: Typed) -> Result<Judgement, AllocError>
@@ -86,7 +67,7 @@ fn judge_annotations(alloc: Global, typed: Typed) -> Result<Judgement, AllocErro
     ensures { IfOk result (JudgesTree typed.class) }
 {
     match annotated(alloc, typed) {
-        Ok(annotated) => judge_form(alloc, &annotated.typed.class),
+        Ok(annotated) => Ok(Judgement::Takes(annotated)),
         Err(AnnotError::Rule { rule, place }) => {
             Ok(Judgement::Refuses(Phase::Annotation(rule), place))
         }
@@ -147,35 +128,10 @@ fn refusal(error: LexError) -> Result<Judgement, AllocError>
 pub(crate) fn judge(alloc: Global, text: &[u8]) -> Result<Judgement, AllocError>
     requires { length text.now ≤ 1048576 }
     ensures judges { IfOk result (Judges text.now) }
-    ensures takes { (class : ClassOf) → IsClassText text.now (class_tree class) → IsProper class → IsAccepted (class_tree class) → IfOk result (IsTaken class) }
+    ensures takes { (class : ClassOf) → IsClassText text.now class → IsAccepted class → IfOk result (IsTaken class) }
 {
     match lex(alloc, text) {
         Ok(tokens) => judge_tokens(alloc, &tokens),
         Err(error) => refusal(error),
     }
-}
-
-/// A method as a caller sees it.
-fn entrance(alloc: Global, method: &StraightMethod) -> Result<Entrance, AllocError>
-    ensures { IfOk result (λ e. e ≡ straight_entrance method.now) }
-{
-    let mut parameters = Items::new(alloc);
-    for _parameter in method.parameters.as_slice() {
-        parameters.push(ValueType::Long)?;
-    }
-    Ok(Entrance {
-        name: Items::from_slice(alloc, method.name.as_slice())?,
-        parameters,
-    })
-}
-
-/// The methods as a caller sees them, by number.
-pub(crate) fn entrances(alloc: Global, class: &StraightClass) -> Result<Vec<Entrance>, AllocError>
-    ensures { IfOk result (λ v. v.items ≡ entrances_of (class_tree class.now)) }
-{
-    let mut entrances = Vec::new(alloc);
-    for method in class.methods.as_slice() {
-        entrances.push(entrance(alloc, method)?)?;
-    }
-    Ok(entrances)
 }

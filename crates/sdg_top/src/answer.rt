@@ -1,26 +1,25 @@
 //! The answer that texts are due.
 
-ghost use Rattle.std.specs.Prelude.{◌≡◌, ◌≤◌, List, length, IfOk};
-ghost use Rattle.std.specs.List.{AllByRecursion};
+ghost use Rattle.std.specs.Prelude.{◌≡◌, ◌≤◌, None, Some, length, IfOk};
 ghost use Rattle.std.specs.Option.{option_copied};
-ghost use Rattle.std.specs.Str.Lines.{lines};
-ghost use Rattle.sdg_base.specs.declared.call.Call.{Call};
-ghost use Rattle.early_forms.specs.declared.straight.StraightClass.{StraightClass as ClassOf};
-ghost use Rattle.early_forms.specs.Trees.{class_tree};
-ghost use Rattle.early_forms.specs.Names.{IsProper};
-ghost use Rattle.early_plain.specs.Fits.{CallFits};
-ghost use Rattle.run_text.specs.Calls.{AreCalls};
-ghost use Rattle.sdg_top.specs.Accepted.{entrances_of};
-ghost use Rattle.sdg_top.specs.Due.{DueForSchedule, DueForCalls, DueForTexts, AreValid, IsValidSchedule, IsShort};
+ghost use Rattle.java_tree.specs.declared.tree.Class.{Class as ClassOf};
+ghost use Rattle.sdg_top.specs.Accepted.{Accepts, annotated_of};
+ghost use Rattle.sdg_top.specs.Answers.{class_refused_line, text_refused_line};
+ghost use Rattle.sdg_top.specs.Commands.{Text, TakesThird};
+ghost use Rattle.sdg_top.specs.Due.{DueForTexts, AreValid, IsShort};
+ghost use Rattle.sdg_top.specs.declared.command.Command.TheVariants as command;
 
-use crate::accept::{Judgement, entrances, judge};
+use crate::accept::{FIRST, Judgement, judge};
+use crate::called::{form_of, let_go, resolved};
+use crate::command::Command;
 use crate::lines::{InputText, class_refused, text_refused};
-use crate::machine::run;
+use crate::plain::answer_plain;
+use crate::replay::answer_replay;
+use crate::scheduled::answer_run;
 use crate::status::Status;
-use early_forms::StraightClass;
-use placement::Schedule;
-use run_text::{TextError, read_calls, read_schedule};
-use sdg_base::{Bytes, Calls};
+use annotations::Annotated;
+use java_tree::Place;
+use sdg_base::Bytes;
 use std::alloc::{AllocError, Global};
 
 /// A status, and the text that goes with it.
@@ -30,101 +29,133 @@ pub(crate) struct Answer {
     pub text: Bytes,
 }
 
-/// What a text of a schedule is due, for calls of an accepted class.
-fn answer_text(
-    alloc: Global,
-    class: &StraightClass,
-    calls: Calls,
-    text: &[u8],
-) -> Result<Answer, AllocError>
-    requires proper { IsProper class.now }
-    requires fit { AllByRecursion (CallFits class.now) calls }
-    requires few { length calls ≤ 65536 }
-    requires size { length text.now ≤ 16777216 }
-    ensures due { IfOk result (λ a. DueForSchedule class.now calls (Some text.now) a.status a.text) }
-    ensures complete { IsValidSchedule class.now (Some text.now) → IfOk result (λ a. a.status ≡ Status.Done) }
+/// The answer to a class that is refused.
+fn refuse_class(alloc: Global, phase: &str, at: Place) -> Result<Answer, AllocError>
+    ensures status { IfOk result (λ a. a.status ≡ Status.Class) }
+    ensures text { IfOk result (λ a. a.text ≡ class_refused_line phase.now at.line at.column) }
 {
-    match read_schedule(alloc, class.fields.as_slice(), text) {
-        Ok(schedule) => Ok(Answer {
-            status: Status::Done,
-            text: run(alloc, class, calls, &schedule)?,
-        }),
-        Err(TextError::Bad { line, rule }) => Ok(Answer {
-            status: Status::Text,
-            text: text_refused(alloc, InputText::Schedule, line, rule)?,
-        }),
-        Err(TextError::Memory) => Err(AllocError),
-    }
+    Ok(Answer {
+        status: Status::Class,
+        text: class_refused(alloc, phase, at.line, at.column)?,
+    })
 }
 
-/// What a schedule is due, if there is one, for calls of an accepted class.
-fn answer_schedule(
+/// The answer to a text with a line that breaks a rule.
+pub(crate) fn refuse_text(
     alloc: Global,
-    class: &StraightClass,
-    calls: Calls,
-    schedule: Option<&[u8]>,
+    text: InputText,
+    line: u32,
+    rule: u8,
 ) -> Result<Answer, AllocError>
-    requires proper { IsProper class.now }
-    requires fit { AllByRecursion (CallFits class.now) calls }
-    requires few { length calls ≤ 65536 }
-    requires size { IsShort (option_copied schedule) }
-    ensures due { IfOk result (λ a. DueForSchedule class.now calls (option_copied schedule.entry) a.status a.text) }
-    ensures complete { IsValidSchedule class.now (option_copied schedule.entry) → IfOk result (λ a. a.status ≡ Status.Done) }
+    ensures status { IfOk result (λ a. a.status ≡ Status.Text) }
+    ensures text { IfOk result (λ a. a.text ≡ text_refused_line text line rule) }
 {
-    match schedule {
-        Some(text) => answer_text(alloc, class, calls, text),
-        None => Ok(Answer {
-            status: Status::Done,
-            text: run(alloc, class, calls, &Schedule::by_default(alloc))?,
-        }),
-    }
+    Ok(Answer {
+        status: Status::Text,
+        text: text_refused(alloc, text, line, rule)?,
+    })
 }
 
-/// What texts of calls and of a schedule are due, of an accepted class.
-fn answer_calls(
+/// What the texts of an accepted class, of calls and of a schedule are due under `run`.
+fn answer_for_run(
     alloc: Global,
-    class: &StraightClass,
-    text: &[u8],
+    annotated: Annotated,
+    calls_text: &[u8],
     schedule: Option<&[u8]>,
 ) -> Result<Answer, AllocError>
-    requires proper { IsProper class.now }
-    requires size { length text.now ≤ 16777216 }
+    requires calls_size { length calls_text.now ≤ 16777216 }
     requires schedule_size { IsShort (option_copied schedule) }
-    ensures due { IfOk result (λ a. DueForCalls class.now text.now (option_copied schedule.entry) a.status a.text) }
-    ensures complete { (calls : List Call) → AreCalls (entrances_of (class_tree class.now)) (lines text.now) calls → IsValidSchedule class.now (option_copied schedule.entry) → IfOk result (λ a. a.status ≡ Status.Done) }
+    ensures due { (text : Text) (class : ClassOf) → Accepts text class → annotated ≡ annotated_of class → IfOk result (λ a. DueForTexts text calls_text.now command.Run (option_copied schedule.entry) a.status a.text) }
+    ensures complete { (text : Text) (class : ClassOf) → Accepts text class → annotated ≡ annotated_of class → AreValid command.Run text calls_text.now (option_copied schedule.entry) → IfOk result (λ a. a.status ≡ Status.Done) }
 {
-    let entrances = entrances(alloc, class)?;
-    match read_calls(alloc, entrances.as_slice(), text) {
-        Ok(calls) => answer_schedule(alloc, class, calls, schedule),
-        Err(TextError::Bad { line, rule }) => Ok(Answer {
-            status: Status::Text,
-            text: text_refused(alloc, InputText::Calls, line, rule)?,
-        }),
-        Err(TextError::Memory) => Err(AllocError),
+    match form_of(alloc, annotated)? {
+        Some(form) => answer_run(alloc, &form, calls_text, schedule),
+        None => refuse_class(alloc, "form", FIRST),
     }
 }
 
-/// What the texts of a class, of calls and of a schedule are due.
+/// What the texts of an accepted class and of calls are due under `plain`.
+fn answer_for_plain(
+    alloc: Global,
+    annotated: Annotated,
+    calls_text: &[u8],
+) -> Result<Answer, AllocError>
+    requires calls_size { length calls_text.now ≤ 16777216 }
+    ensures due { (text : Text) (class : ClassOf) → Accepts text class → annotated ≡ annotated_of class → IfOk result (λ a. DueForTexts text calls_text.now command.Plain None a.status a.text) }
+    ensures complete { (text : Text) (class : ClassOf) → Accepts text class → annotated ≡ annotated_of class → AreValid command.Plain text calls_text.now None → IfOk result (λ a. a.status ≡ Status.Done) }
+{
+    match annotated.partial {
+        Some(at) => {
+            let_go(annotated);
+            refuse_class(alloc, "plain", at)
+        }
+        None => {
+            let called = resolved(alloc, annotated)?;
+            answer_plain(alloc, &called, calls_text)
+        }
+    }
+}
+
+/// What the texts of an accepted class, of calls and of a history are due under `replay`.
+fn answer_for_replay(
+    alloc: Global,
+    annotated: Annotated,
+    calls_text: &[u8],
+    history_text: &[u8],
+) -> Result<Answer, AllocError>
+    requires calls_size { length calls_text.now ≤ 16777216 }
+    requires history_size { length history_text.now ≤ 16777216 }
+    ensures due { (text : Text) (class : ClassOf) → Accepts text class → annotated ≡ annotated_of class → IfOk result (λ a. DueForTexts text calls_text.now command.Replay (Some history_text.now) a.status a.text) }
+    ensures complete { (text : Text) (class : ClassOf) → Accepts text class → annotated ≡ annotated_of class → AreValid command.Replay text calls_text.now (Some history_text.now) → IfOk result (λ a. a.status ≡ Status.Done) }
+{
+    let called = resolved(alloc, annotated)?;
+    answer_replay(alloc, &called, calls_text, history_text)
+}
+
+/// What the texts of an accepted class, of calls and of a third file are due.
+fn answer_class(
+    alloc: Global,
+    command: Command,
+    annotated: Annotated,
+    calls_text: &[u8],
+    third: Option<&[u8]>,
+) -> Result<Answer, AllocError>
+    requires takes { TakesThird command (option_copied third) }
+    requires calls_size { length calls_text.now ≤ 16777216 }
+    requires third_size { IsShort (option_copied third) }
+    ensures due { (text : Text) (class : ClassOf) → Accepts text class → annotated ≡ annotated_of class → IfOk result (λ a. DueForTexts text calls_text.now command (option_copied third.entry) a.status a.text) }
+    ensures complete { (text : Text) (class : ClassOf) → Accepts text class → annotated ≡ annotated_of class → AreValid command text calls_text.now (option_copied third.entry) → IfOk result (λ a. a.status ≡ Status.Done) }
+{
+    match command {
+        Command::Run => answer_for_run(alloc, annotated, calls_text, third),
+        Command::Plain => answer_for_plain(alloc, annotated, calls_text),
+        Command::Replay => match third {
+            Some(history) => answer_for_replay(alloc, annotated, calls_text, history),
+            None => unreachable!(),
+        },
+    }
+}
+
+/// What the texts of a class, of calls and of a third file are due.
 pub(crate) fn answer_texts(
     alloc: Global,
+    command: Command,
     class_text: &[u8],
     calls_text: &[u8],
-    schedule_text: Option<&[u8]>,
+    third: Option<&[u8]>,
 ) -> Result<Answer, AllocError>
+    requires takes { TakesThird command (option_copied third) }
     requires class_size { length class_text.now ≤ 1048576 }
     requires calls_size { length calls_text.now ≤ 16777216 }
-    requires schedule_size { IsShort (option_copied schedule_text) }
-    ensures due { IfOk result (λ a. DueForTexts class_text.now calls_text.now (option_copied schedule_text.entry) a.status a.text) }
-    ensures complete { AreValid class_text.now calls_text.now (option_copied schedule_text.entry) → IfOk result (λ a. a.status ≡ Status.Done) }
+    requires third_size { IsShort (option_copied third) }
+    ensures due { IfOk result (λ a. DueForTexts class_text.now calls_text.now command (option_copied third.entry) a.status a.text) }
+    ensures complete { AreValid command class_text.now calls_text.now (option_copied third.entry) → IfOk result (λ a. a.status ≡ Status.Done) }
 {
     match judge(alloc, class_text)? {
-        Judgement::Takes(class) => answer_calls(alloc, &class, calls_text, schedule_text),
+        Judgement::Takes(annotated) => answer_class(alloc, command, annotated, calls_text, third),
         Judgement::Refuses(phase, at) => {
             let name = phase.text(alloc)?;
-            Ok(Answer {
-                status: Status::Class,
-                text: class_refused(alloc, name.as_str(), at.line, at.column)?,
-            })
+            refuse_class(alloc, name.as_str(), at)
         }
     }
 }

@@ -3,11 +3,17 @@
 
 mod accept;
 mod answer;
+mod called;
+mod command;
 mod lines;
 mod machine;
+mod plain;
+mod replay;
+mod reply;
 mod report;
 mod results;
 mod run;
+mod scheduled;
 mod status;
 
 pub use report::print_report;

@@ -107,21 +107,24 @@ fn print_failure(out: &mut Vec<u8>, failure: &(u8, Word)) -> Result<(), AllocErr
     push(out, "\n")
 }
 
-fn print_results(out: &mut Vec<u8>, results: &[(u32, Outcome)]) -> Result<(), AllocError>
+pub(crate) fn print_results(out: &mut Vec<u8>, results: &[(u32, Outcome)]) -> Result<(), AllocError>
     ensures { OnOk result (out.new.items ≡
         out.old.items ++ flat_map report.result_line results.now) }
 {
-    for result in results {
-        print_result(out, result)?;
+    for (call, outcome) in results {
+        print_result(out, *call as usize, outcome)?;
     }
     Ok(())
 }
 
 #[tactic(auto, unfolding(crate::specs::Report::result_line))]
-fn print_result(out: &mut Vec<u8>, ended: &(u32, Outcome)) -> Result<(), AllocError>
-    ensures { OnOk result (out.new.items ≡ out.old.items ++ report.result_line ended.now) }
+pub(crate) fn print_result(
+    out: &mut Vec<u8>,
+    call: usize,
+    outcome: &Outcome,
+) -> Result<(), AllocError>
+    ensures { OnOk result (out.new.items ≡ out.old.items ++ report.result_line (call, outcome.now)) }
 {
-    let (call, outcome) = ended;
     push(out, &format!(in *out.allocator(); "result {call} ")?)?;
     print_outcome(out, outcome)?;
     push(out, "\n")
@@ -302,7 +305,7 @@ fn print_long(out: &mut Vec<u8>, number: &i64) -> Result<(), AllocError>
     push(out, &number.to_string(*out.allocator())?)
 }
 
-fn push(out: &mut Vec<u8>, text: &str) -> Result<(), AllocError>
+pub(crate) fn push(out: &mut Vec<u8>, text: &str) -> Result<(), AllocError>
     ensures { OnOk result (out.new.items ≡ out.old.items ++ text.now) }
 {
     out.extend_from_slice(text.as_bytes())

@@ -1,15 +1,16 @@
 //! The words, the files and the output of a run.
 
-ghost use Rattle.std.specs.Prelude.{◌≡◌, ◌≢◌, ◌↔◌, ℕ, ◌≤◌, ◌<◌, List, All, map, codes, Err, IfOk, IsTrue, MatchOption, Option};
-ghost use Rattle.std.specs.Option.{option_copied, option_map};
+ghost use Rattle.std.specs.Prelude.{◌≡◌, ◌≢◌, ℕ, ◌≤◌, ◌<◌, List, All, map, Err, IfOk, Option};
 ghost use Rattle.std.specs.String.{string_bytes};
 ghost use Rattle.sdg_keep.specs.Faults.{Rises};
 ghost use Rattle.sdg_keep.specs.Writes.{Appends, AppendsPrefix};
 ghost use Rattle.sdg_keep.specs.Endings.{told, file_asked, ending_of};
-ghost use Rattle.sdg_top.specs.Due.{Due, DueForTexts, run_words, run_files, run_texts, AreNoCommand, ReadsAsked, IsAnswer, WritesPrefix, AreTold, AreValid, IsValid, NoFault};
-ghost use Rattle.sdg_top.specs.Read.{SaysWhy, AreRunTexts};
+ghost use Rattle.sdg_top.specs.Commands.{Text, TakesThird, AreOf, class_named, calls_named, third_named, files_of, texts_of};
+ghost use Rattle.sdg_top.specs.Due.{Due, DueForTexts, ReadsAsked, IsAnswer, WritesPrefix, AreTold, AreValid, IsValid, NoFault};
+ghost use Rattle.sdg_top.specs.Read.{SaysWhy, AreTexts};
 
 use crate::answer::{Answer, answer_texts};
+use crate::command::{Command, Named, command_in};
 use crate::lines::{too_long, unreadable, usage};
 use crate::status::Status;
 use sdg_base::{Bytes, KeepError};
@@ -19,7 +20,7 @@ use std::alloc::{AllocError, Global};
 /// The most bytes of a class file.
 const CLASS_LIMIT: u64 = 1048576;
 
-/// The most bytes of a calls file, and of a schedule file.
+/// The most bytes of a calls file, and of a third file.
 const CALLS_LIMIT: u64 = 16777216;
 
 /// A file of this name with a limit.
@@ -33,22 +34,17 @@ fn asked_file(alloc: Global, name: &String, limit: u64) -> Result<Asked, AllocEr
     })
 }
 
-/// The files of a run in the order of the words.
-fn asked_files(
-    alloc: Global,
-    class: &String,
-    calls: &String,
-    schedule: Option<&String>,
-) -> Result<Vec<Asked>, AllocError>
+/// The files of a command in the order of the words.
+fn asked_files(alloc: Global, named: &Named<'_>) -> Result<Vec<Asked>, AllocError>
     ensures files { IfOk result (λ asked. map file_asked asked.items
-        ≡ run_files (string_bytes class.now) (string_bytes calls.now) (option_map string_bytes (option_copied schedule.entry))) }
+        ≡ files_of (class_named named.now) (calls_named named.now) (third_named named.now)) }
     ensures low { IfOk result (λ asked. All (λ file. file.limit ≤ 16777216) asked.items) }
 {
     let mut asked = Vec::new(alloc);
-    asked.push(asked_file(alloc, class, CLASS_LIMIT)?)?;
-    asked.push(asked_file(alloc, calls, CALLS_LIMIT)?)?;
-    if let Some(schedule) = schedule {
-        asked.push(asked_file(alloc, schedule, CALLS_LIMIT)?)?;
+    asked.push(asked_file(alloc, named.class, CLASS_LIMIT)?)?;
+    asked.push(asked_file(alloc, named.calls, CALLS_LIMIT)?)?;
+    if let Some(third) = named.third {
+        asked.push(asked_file(alloc, third, CALLS_LIMIT)?)?;
     }
     Ok(asked)
 }
@@ -70,69 +66,46 @@ fn answer_unread(alloc: Global, error: &FilesError) -> Result<Answer, AllocError
     }
 }
 
-/// What the texts of a run's files are due.
-fn answer_read(alloc: Global, texts: &[Bytes]) -> Result<Answer, AllocError>
-    requires { AreRunTexts texts.now }
-    ensures due { (class calls : List ℕ) (schedule : Option (List ℕ)) → texts.now ≡ run_texts class calls schedule
-        → IfOk result (λ a. DueForTexts class calls schedule a.status a.text) }
-    ensures complete { (class calls : List ℕ) (schedule : Option (List ℕ)) → texts.now ≡ run_texts class calls schedule
-        → AreValid class calls schedule → IfOk result (λ a. a.status ≡ Status.Done) }
+/// What the texts of a command's files are due.
+fn answer_read(alloc: Global, command: Command, texts: &[Bytes]) -> Result<Answer, AllocError>
+    requires { AreTexts command texts.now }
+    ensures due { (class calls : Text) (third : Option Text) → texts.now ≡ texts_of class calls third
+        → IfOk result (λ a. DueForTexts class calls command third a.status a.text) }
+    ensures complete { (class calls : Text) (third : Option Text) → texts.now ≡ texts_of class calls third
+        → AreValid command class calls third → IfOk result (λ a. a.status ≡ Status.Done) }
 {
     match texts {
-        [class, calls] => answer_texts(alloc, class.as_slice(), calls.as_slice(), None),
-        [class, calls, schedule] => answer_texts(
+        [class, calls] => answer_texts(alloc, command, class.as_slice(), calls.as_slice(), None),
+        [class, calls, third] => answer_texts(
             alloc,
+            command,
             class.as_slice(),
             calls.as_slice(),
-            Some(schedule.as_slice()),
+            Some(third.as_slice()),
         ),
         _ => unreachable!(),
     }
 }
 
-/// Reads the files of a run in their order, and answers what they are due.
-fn answer_run<F: Files>(
+/// Reads the files of a command in their order, and answers what they are due.
+fn answer_command<F: Files>(
     alloc: Global,
     files: &mut F,
-    class: &String,
-    calls: &String,
-    schedule: Option<&String>,
+    named: &Named<'_>,
 ) -> Result<Answer, AllocError>
-    ensures due { IfOk result (λ a. Due (run_words (string_bytes class.now) (string_bytes calls.now) (option_map string_bytes (option_copied schedule.entry)))
-        (told F.content F.faults F.reads files.old files.new) a.status a.text) }
-    ensures complete { (class_text calls_text : List ℕ) (schedule_text : Option (List ℕ))
-        → AreTold (F.content files.old) (run_files (string_bytes class.now) (string_bytes calls.now) (option_map string_bytes (option_copied schedule.entry))) (run_texts class_text calls_text schedule_text)
-        → AreValid class_text calls_text schedule_text → NoFault (F.faults files.old) (F.faults files.new) → IfOk result (λ a. a.status ≡ Status.Done) }
-    ensures reads { ReadsAsked (run_words (string_bytes class.now) (string_bytes calls.now) (option_map string_bytes (option_copied schedule.entry)))
-        (told F.content F.faults F.reads files.old files.new) }
+    requires { TakesThird named.now.command (third_named named.now) }
+    ensures due { (words : List Text) → AreOf named.now words → IfOk result (λ a. Due words (told F.content F.faults F.reads files.old files.new) a.status a.text) }
+    ensures complete { (class_text calls_text : Text) (third_text : Option Text)
+        → AreTold (F.content files.old) (files_of (class_named named.now) (calls_named named.now) (third_named named.now)) (texts_of class_text calls_text third_text)
+        → AreValid named.now.command class_text calls_text third_text → NoFault (F.faults files.old) (F.faults files.new) → IfOk result (λ a. a.status ≡ Status.Done) }
+    ensures reads { (words : List Text) → AreOf named.now words → ReadsAsked words (told F.content F.faults F.reads files.old files.new) }
     ensures same { (other : List ℕ) → F.content files.new other ≡ F.content files.old other }
     ensures falls { F.faults files.old ≤ F.faults files.new }
 {
-    let asked = asked_files(alloc, class, calls, schedule)?;
+    let asked = asked_files(alloc, named)?;
     match read_files(alloc, files, &asked) {
-        Ok(texts) => answer_read(alloc, texts.as_slice()),
+        Ok(texts) => answer_read(alloc, named.command, texts.as_slice()),
         Err(error) => answer_unread(alloc, &error),
-    }
-}
-
-/// Whether a word is the command `run`.
-fn is_run(word: &String) -> bool
-    ensures { IsTrue result ↔ (string_bytes word.now ≡ codes "run") }
-{
-    word.as_str() == "run"
-}
-
-/// The names of the files, where the words are `run CLASS CALLS` or `run CLASS CALLS SCHEDULE`.
-fn files_of(words: &[String]) -> Option<(&String, &String, Option<&String>)>
-    ensures { MatchOption result (AreNoCommand (map string_bytes words.now))
-        (λ files. map string_bytes words.now ≡ run_words (string_bytes files.0.now) (string_bytes files.1.now) (option_map string_bytes (option_copied files.2))) }
-{
-    match words {
-        [command, class, calls] if is_run(command) => Some((class, calls, None)),
-        [command, class, calls, schedule] if is_run(command) => {
-            Some((class, calls, Some(schedule)))
-        }
-        _ => None,
     }
 }
 
@@ -146,8 +119,8 @@ fn answer<F: Files>(alloc: Global, words: &[String], files: &mut F) -> Result<An
     ensures same { (other : List ℕ) → F.content files.new other ≡ F.content files.old other }
     ensures falls { F.faults files.old ≤ F.faults files.new }
 {
-    match files_of(words) {
-        Some((class, calls, schedule)) => answer_run(alloc, files, class, calls, schedule),
+    match command_in(words) {
+        Some(named) => answer_command(alloc, files, &named),
         None => Ok(Answer {
             status: Status::Words,
             text: usage(alloc)?,
@@ -172,7 +145,8 @@ fn say<S: Sink>(out: &mut S, answer: &Answer) -> Status
 
 /// Runs the program on its words, which leave out the program's name, over files and an output.
 ///
-/// The commands today are `run CLASS CALLS` and `run CLASS CALLS SCHEDULE`.
+/// The commands today are `run CLASS CALLS`, `run CLASS CALLS SCHEDULE`, `plain CLASS CALLS` and
+/// `replay CLASS CALLS HISTORY`.
 pub fn java2sdg<F: Files, S: Sink>(
     alloc: Global,
     words: &[String],
@@ -180,8 +154,10 @@ pub fn java2sdg<F: Files, S: Sink>(
     out: &mut S,
 ) -> Status
     // An answer is the one that is due, and all of its text is written and nothing else. For `Done`
-    // it is the report of the world that the schedule fixes: one result for each call, those of the
-    // annotated source stepped in the history's order, and of plain Java where calls do not interleave.
+    // `run` gives the report of the world that the schedule fixes: one result for each call, those of
+    // the annotated source stepped in the history's order, and of plain Java where calls do not
+    // interleave; `plain` gives how each call ends in plain Java; and `replay` gives how calls end in
+    // the annotated source stepped along the history.
     ensures answers { IsAnswer result → (text : List ℕ)
         × Due (map string_bytes words.now) (told F.content F.faults F.reads files.old files.new) result text
         × Appends (S.written out.old) (S.written out.new) text }

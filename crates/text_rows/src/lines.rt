@@ -9,8 +9,14 @@ use std::alloc::{AllocError, Global};
 /// A text that no file may have.
 const LONG: TextError = TextError::Bad { line: 0, rule: 0 };
 
-fn entrance(alloc: Global, name: &[u8], parameters: &[ValueType]) -> Result<Entrance, AllocError> {
+fn entrance(
+    alloc: Global,
+    number: u16,
+    name: &[u8],
+    parameters: &[ValueType],
+) -> Result<Entrance, AllocError> {
     Ok(Entrance {
+        number,
         name: Items::from_slice(alloc, name)?,
         parameters: Items::from_slice(alloc, parameters)?,
     })
@@ -19,10 +25,10 @@ fn entrance(alloc: Global, name: &[u8], parameters: &[ValueType]) -> Result<Entr
 /// The entry methods of the rows: `get(long)`, `put(long, int)`, `set(Vector, boolean)` and `size()`.
 fn entrances(alloc: Global) -> Result<[Entrance; 4], AllocError> {
     Ok([
-        entrance(alloc, b"get", &[ValueType::Long])?,
-        entrance(alloc, b"put", &[ValueType::Long, ValueType::Int])?,
-        entrance(alloc, b"set", &[ValueType::Vector, ValueType::Boolean])?,
-        entrance(alloc, b"size", &[])?,
+        entrance(alloc, 1, b"get", &[ValueType::Long])?,
+        entrance(alloc, 3, b"put", &[ValueType::Long, ValueType::Int])?,
+        entrance(alloc, 4, b"set", &[ValueType::Vector, ValueType::Boolean])?,
+        entrance(alloc, 6, b"size", &[])?,
     ])
 }
 

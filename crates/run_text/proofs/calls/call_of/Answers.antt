@@ -12,8 +12,8 @@ returns-then-spaces-len-clause-bad c = λ before.
     let line = c.args.line.now in
     let entrance = c.in-Some.entrance.now in
     let spelled : IsWellSpelled line = search rules in
-    let f : Found es c.in-Some.method entrance line = found es c.in-Some.method entrance line c.cut.result.0.now (parts_of 32 (option_copied c.cut.result.1)) spelled c.in-Some.ensures c.cut.ensures.parts in
-    found_count es c.in-Some.method entrance line c.spaces.result before f c.spaces.ensures (λ same. search rules)
+    let f : Found es c.in-Some.ensures.0 entrance line = found es c.in-Some.ensures.0 entrance line c.cut.result.0.now (parts_of 32 (option_copied c.cut.result.1)) spelled (c.in-Some.ensures.1, c.in-Some.ensures.2) c.cut.ensures.parts in
+    found_count es c.in-Some.ensures.0 entrance line c.spaces.result before f c.spaces.ensures (λ same. search rules)
 
 pub values_of-requires : goal.values_of-requires
 values_of-requires c = omega (arith, words_long c.args.line.now, c.spaces.ensures, c.len.ensures, ap Rattle.std.proofs.Common.length c.as_slice.ensures)
@@ -24,10 +24,10 @@ returns-in_err-args-clause-bad c =
     let line = c.args.line.now in
     let entrance = c.in-Some.entrance.now in
     let spelled : IsWellSpelled line = search rules in
-    let f : Found es c.in-Some.method entrance line = found es c.in-Some.method entrance line c.cut.result.0.now (parts_of 32 (option_copied c.cut.result.1)) spelled c.in-Some.ensures c.cut.ensures.parts in
+    let f : Found es c.in-Some.ensures.0 entrance line = found es c.in-Some.ensures.0 entrance line c.cut.result.0.now (parts_of 32 (option_copied c.cut.result.1)) spelled (c.in-Some.ensures.1, c.in-Some.ensures.2) c.cut.ensures.parts in
     let misfit = rw c.as_slice.ensures at c.in_err-args.ensures.bad in
     let p = err_from_is_err_and c.from_residual.result c.from_residual.ensures.1 in
-    rw (p.1, p.2) (λ before. found_args es c.in-Some.method entrance line c.spaces.result before c.in_err-args.field-0.0 f c.spaces.ensures (search rules) misfit)
+    rw (p.1, p.2) (λ before. found_args es c.in-Some.ensures.0 entrance line c.spaces.result before c.in_err-args.field-0.0 f c.spaces.ensures (search rules) misfit)
 
 pub returns-clause-found : goal.returns-clause-found
 returns-clause-found c =
@@ -35,5 +35,5 @@ returns-clause-found c =
     let line = c.args.line.now in
     let entrance = c.in-Some.entrance.now in
     let spelled : IsWellSpelled line = search rules in
-    let f : Found es c.in-Some.method entrance line = found es c.in-Some.method entrance line c.cut.result.0.now (parts_of 32 (option_copied c.cut.result.1)) spelled c.in-Some.ensures c.cut.ensures.parts in
-    found_call es c.in-Some.method entrance line c.in_ok-args.args f (rw c.as_slice.ensures at c.in_ok-args.ensures.found)
+    let f : Found es c.in-Some.ensures.0 entrance line = found es c.in-Some.ensures.0 entrance line c.cut.result.0.now (parts_of 32 (option_copied c.cut.result.1)) spelled (c.in-Some.ensures.1, c.in-Some.ensures.2) c.cut.ensures.parts in
+    found_call es c.in-Some.ensures.0 entrance line c.in_ok-args.args f (rw c.as_slice.ensures at c.in_ok-args.ensures.found)

@@ -8,11 +8,11 @@ returns-in-Ok c =
     let only : AreOnlyTokens c.args.text.now c.in-Ok.tokens.list = λ others end spelled. sym (c.in-Ok.ensures.only others end spelled).0 in
     record {
       judges = IfOk-weaker c.judge_tokens.result _ _ (λ j h. tokens_judged c.args.text.now c.in-Ok.tokens.list c.in-Ok.tokens.end j c.in-Ok.ensures.found only h) c.judge_tokens.ensures;
-      takes = λ class is proper accepted. IfOk-weaker c.judge_tokens.result _ _ (λ j h. tokens_taken c.args.text.now c.in-Ok.tokens.list class j only is proper accepted h) c.judge_tokens.ensures;
+      takes = λ class is accepted. IfOk-weaker c.judge_tokens.result _ _ (λ j h. tokens_taken c.args.text.now c.in-Ok.tokens.list class j only is accepted h) c.judge_tokens.ensures;
     }
 
 pub returns-in-Err : goal.returns-in-Err
 returns-in-Err c = record {
   judges = IfOk-weaker c.refusal.result _ _ (λ j h. error_judged c.args.text.now c.in-Err.error j c.in-Err.ensures.refused h) c.refusal.ensures;
-  takes = λ class is proper accepted. IfOk-weaker c.refusal.result _ _ (λ j h. absurd (no_refusal c.in-Err.error j (c.in-Err.ensures.only is.tokens is.end is.spelled) h)) c.refusal.ensures;
+  takes = λ class is accepted. IfOk-weaker c.refusal.result _ _ (λ j h. absurd (no_refusal c.in-Err.error j (c.in-Err.ensures.only is.tokens is.end is.spelled) h)) c.refusal.ensures;
 }

@@ -2,7 +2,7 @@ use Rattle.std.proofs.Common.{[], map, sym, subst}
 use Rattle.std.specs.String.{string_bytes}
 use Rattle.sdg_keep.specs.Endings.{AllRead, told}
 use Rattle.sdg_top.specs.declared.status.Status.TheVariants as status
-use Rattle.sdg_top.specs.Accepted.{Text}
+use Rattle.sdg_top.specs.Commands.{Text}
 use Rattle.sdg_top.specs.Due.{Due, NoCommand, NoneAsks}
 use Rattle.sdg_top.proofs.Dues.{reads_none}
 use Rattle.sdg_top.proofs.run.answer.Goals as goal

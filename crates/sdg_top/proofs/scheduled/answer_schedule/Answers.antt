@@ -4,7 +4,7 @@ use Rattle.sdg_top.specs.declared.status.Status.TheVariants as status
 use Rattle.placement.specs.declared.event.Schedule.{Schedule}
 use Rattle.sdg_top.specs.Accepted.{IsReport}
 use Rattle.sdg_top.specs.Due.{DueForSchedule, ReportedDefault}
-use Rattle.sdg_top.proofs.answer.answer_schedule.Goals as goal
+use Rattle.sdg_top.proofs.scheduled.answer_schedule.Goals as goal
 
 pub returns-in_ok-run-in-None-clause-due : goal.returns-in_ok-run-in-None-clause-due
 returns-in_ok-run-in-None-clause-due c =
