@@ -1,6 +1,7 @@
 import java.io.ByteArrayOutputStream;
 import java.io.IOException;
 import java.io.OutputStream;
+import java.lang.reflect.AccessibleObject;
 import java.lang.reflect.Constructor;
 import java.lang.reflect.InvocationTargetException;
 import java.lang.reflect.Method;
@@ -12,6 +13,11 @@ import java.util.ArrayList;
 import java.util.HashMap;
 import java.util.List;
 import java.util.Map;
+import java.util.TreeMap;
+import java.util.regex.MatchResult;
+import java.util.regex.Matcher;
+import java.util.regex.Pattern;
+import javax.lang.model.SourceVersion;
 import javax.tools.Diagnostic;
 import javax.tools.DiagnosticCollector;
 import javax.tools.FileObject;
@@ -28,11 +34,15 @@ import javax.tools.ToolProvider;
  *
  * <p>usage: java RunCalls.java RUNTIME CLASS CALLS [CLASS CALLS]..
  *
- * <p>RUNTIME is the folder with the sources of the annotations and of the state classes. Each CLASS has a line {@code
- * class CLASS}, and then a line {@code result C VALUE} for each call C, from 1, as in a report of java2sdg. Where Java
- * refuses the class or a call, a line {@code refused: WHY} ends what is said of the class, and the status is 1. Where
- * javac refuses a class, WHY is {@code javac: } and each error, with {@code ; } between them: its line and column, its
- * code and its message. The place is that of the first token, and of a missing return that of the closing brace.
+ * <p>RUNTIME is the folder with the sources of the annotations, of the state classes and of the count of turns. Each CLASS
+ * has a line {@code class CLASS}, and then the lines of {@code java2sdg plain CLASS CALLS}: {@code result C VALUE} for each
+ * call C, from 1, and {@code end R results}. Where Java refuses the class or a call, a line {@code refused: WHY} ends it,
+ * and the status is 1. Where javac refuses a class, WHY is {@code javac: } and each error, with {@code ; } between them: its
+ * line and column, its code and its message. The place is that of the first token, and of a missing return that of the
+ * closing brace.
+ *
+ * <p>A JVM does not know the turns that are spent before blocks, so it cannot tell where a call with accesses to fields
+ * runs out of turns. A line {@code unknown from call C} ends what is said of a class where that may come, or came before.
  */
 final class RunCalls {
   public static void main(String[] words) throws Exception {
@@ -46,7 +56,7 @@ final class RunCalls {
       for (int i = 1; i < words.length; i += 2) {
         results.append("class ").append(words[i]).append('\n');
         try {
-          run(compiler.compiled(Path.of(words[i])), callLines(Path.of(words[i + 1])), results);
+          run(text(Path.of(words[i])), callLines(Path.of(words[i + 1])), compiler, results);
         } catch (Refused refused) {
           results.append("refused: ").append(refused.getMessage()).append('\n');
           status = 1;
@@ -58,20 +68,36 @@ final class RunCalls {
     System.exit(status);
   }
 
-  private static void run(Class<?> compiled, List<String> calls, StringBuilder results) throws Exception {
+  private static void run(String text, List<String> calls, Compiler compiler, StringBuilder results) throws Exception {
+    Class<?> compiled = compiler.compiled(text);
     Map<String, Method> methods = new HashMap<>();
     for (Method method : compiled.getDeclaredMethods()) {
-      method.setAccessible(true);
       methods.put(method.getName(), method);
     }
     Constructor<?> constructor = compiled.getDeclaredConstructor();
+    for (AccessibleObject each : methods.values()) {
+      each.setAccessible(true);
+    }
     constructor.setAccessible(true);
     Object object = constructor.newInstance();
+    // no more than these: vectors have methods too
+    int accesses = compiled.getDeclaredFields().length == 0 ? 0 : (int) text.chars().filter(each -> each == '.').count();
+    boolean isKnown = true;
     int number = 0;
     for (String call : calls) {
       number++;
-      results.append("result ").append(number).append(' ').append(outcome(object, methods, call)).append('\n');
+      compiled.getMethod("begin").invoke(object);
+      String outcome = outcome(object, methods, call);
+      boolean isOver = (boolean) compiled.getMethod("isOver").invoke(object);
+      isKnown = isKnown && (isOver || (boolean) compiled.getMethod("isEnough", int.class).invoke(object, accesses));
+      if (!isKnown) {
+        results.append("unknown from call ").append(number).append('\n');
+        return;
+      }
+      results.append("result ").append(number).append(' ').append(outcome).append('\n');
+      isKnown = !isOver || accesses == 0;
     }
+    results.append("end ").append(number).append(" results\n");
   }
 
   /** The lines of a calls file that are calls: LF or CRLF ends a line, and empty lines and comments are skipped. */
@@ -88,7 +114,7 @@ final class RunCalls {
 
   private static String outcome(Object object, Map<String, Method> methods, String call) throws Exception {
     String[] words = call.split(" ", -1);
-    Method method = methods.get(words[0]);
+    Method method = words[0].isEmpty() ? null : methods.get(JavaText.own(words[0]));
     if (method == null || method.getParameterCount() != words.length - 1) {
       throw new Refused("no method takes the call " + call);
     }
@@ -101,11 +127,11 @@ final class RunCalls {
       return method.getReturnType() == void.class ? "void" : String.valueOf(value);
     } catch (InvocationTargetException thrown) {
       String name = thrown.getCause().getClass().getSimpleName();
-      return name.equals("VectorLimit") ? "limit" : "throws " + name;
+      return name.equals("Limit") ? "limit" : "throws " + name;
     }
   }
 
-  private static Object argument(Class<?> type, String word) throws Refused {
+  private static Object argument(Class<?> type, String word) throws Exception {
     try {
       if (type == long.class) {
         return Long.valueOf(word);
@@ -113,11 +139,14 @@ final class RunCalls {
       if (type == int.class) {
         return Integer.valueOf(word);
       }
-    } catch (NumberFormatException wrong) {
+      if (type == boolean.class && (word.equals("true") || word.equals("false"))) {
+        return Boolean.valueOf(word);
+      }
+      if (type.getName().equals("Vector")) {
+        return type.getMethod("valueOf", String.class).invoke(null, word);
+      }
+    } catch (NumberFormatException | InvocationTargetException wrong) {
       throw new Refused(word + " is no " + type);
-    }
-    if (type == boolean.class && (word.equals("true") || word.equals("false"))) {
-      return Boolean.valueOf(word);
     }
     throw new Refused(word + " is no " + type);
   }
@@ -134,6 +163,87 @@ final class RunCalls {
     }
   }
 
+  /** The text of a class as javac takes it, with a count of turns. */
+  private static final class JavaText {
+    /** From a letter of ASCII to its fullwidth form. */
+    private static final int FULLWIDTH = 0xFEE0;
+
+    private static final Pattern OWN = Pattern.compile("[\uFF00-\uFFEF]");
+    private static final Pattern COMMENT = Pattern.compile("//[^\\r\\n]*|/\\*.*?\\*/", Pattern.DOTALL);
+    private static final Pattern HEAD = Pattern.compile("^.*?(?<![\\w$])(?=class(?![\\w$]))", Pattern.DOTALL);
+    private static final Pattern MARK = Pattern.compile("(?<![\\w$])(?:public|private|static)(?![\\w$])|@\\s*Global(?![\\w$])");
+    private static final Pattern NAME = Pattern.compile("(class\\s+|new\\s+|[.@]\\s*)?([\\w$]+)(?=(\\s*\\()?)");
+    private static final Pattern CLASS = Pattern.compile("class\\s+[^\\s{]+");
+    private static final Pattern METHOD = Pattern.compile("[\uFF00-\uFFEF][\\w$]*\\s*\\([^()]*\\)\\s*\\{");
+    private static final Pattern LOOP = Pattern.compile("(?<![\\w$])(?:while|for)\\s*\\(");
+
+    final String text;
+    private final TreeMap<Integer, String> added = new TreeMap<>();
+
+    /**
+     * Blanks stand for comments, in which Java reads escapes; for a package and imports of what is not there; for
+     * modifiers, which java2sdg takes twice and {@code static} on methods with fields; and for {@code @Global}. The class
+     * and its methods get names of their own, whatever Object declares and whatever Java keeps a name for. All this is as
+     * long as what it stands for.
+     */
+    JavaText(String written) {
+      String marked = blanked(MARK, blanked(HEAD, blanked(COMMENT, written)));
+      String named = NAME.matcher(marked).replaceAll(JavaText::named);
+      CLASS.matcher(named).results().limit(1).forEach(found -> added.put(found.end(), " extends Turns "));
+      METHOD.matcher(named).results().forEach(found -> added.put(found.end(), "if (none()) throw new Limit();"));
+      LOOP.matcher(named).results().forEach(found -> added.put(bodyOf(named, found.end()), "if (none()) throw new Limit(); else "));
+      StringBuilder made = new StringBuilder(named);
+      added.descendingMap().forEach(made::insert);
+      text = made.toString();
+    }
+
+    /** A name that no class of the platform and no method of Object has: its first letter is the fullwidth one. */
+    static String own(String name) {
+      return (char) (name.charAt(0) + FULLWIDTH) + name.substring(1);
+    }
+
+    /** A message that has the names of the class as it was written. */
+    static String asWritten(String message) {
+      return OWN.matcher(message).replaceAll(found -> Matcher.quoteReplacement("" + (char) (found.group().charAt(0) - FULLWIDTH)));
+    }
+
+    /** How many characters stand before in the class as it was written. */
+    int written(int before) {
+      int more = 0;
+      for (Map.Entry<Integer, String> each : added.entrySet()) {
+        if (each.getKey() + more >= before) {
+          break;
+        }
+        more += each.getValue().length();
+      }
+      return before - more;
+    }
+
+    private static String named(MatchResult found) {
+      String before = found.group(1) == null ? "" : found.group(1);
+      String name = found.group(2);
+      boolean isMethod = before.isEmpty() && found.group(3) != null && !SourceVersion.isKeyword(name);
+      boolean isClass = before.startsWith("class");
+      return Matcher.quoteReplacement(before + (isMethod || isClass ? own(name) : name));
+    }
+
+    private static String blanked(Pattern pattern, String text) {
+      return pattern.matcher(text).replaceAll(found -> found.group().replaceAll("[^\\r\\n]", " "));
+    }
+
+    /** Where the body of a loop begins, whose header is open. */
+    private static int bodyOf(String text, int from) {
+      int at = from;
+      for (int open = 1; open > 0 && at < text.length(); at++) {
+        open += text.charAt(at) == '(' ? 1 : text.charAt(at) == ')' ? -1 : 0;
+      }
+      while (at < text.length() && Character.isWhitespace(text.charAt(at))) {
+        at++;
+      }
+      return at;
+    }
+  }
+
   /** Compiles each class together with what it needs of the runtime, in memory and apart from all others. */
   private static final class Compiler implements AutoCloseable {
     private final JavaCompiler javac = ToolProvider.getSystemJavaCompiler();
@@ -145,22 +255,22 @@ final class RunCalls {
       options = List.of("-proc:none", "-cp", runtime.toString(), "-sourcepath", runtime.toString());
     }
 
-    Class<?> compiled(Path source) throws Exception {
+    Class<?> compiled(String written) throws Exception {
       Outputs outputs = new Outputs(files);
       DiagnosticCollector<JavaFileObject> found = new DiagnosticCollector<>();
-      String text = text(source);
-      if (!javac.getTask(null, outputs, found, options, null, List.of(new Source(text))).call()) {
-        throw new Refused("javac: " + messages(found, text));
+      JavaText java = new JavaText(written);
+      if (!javac.getTask(null, outputs, found, options, null, List.of(new Source(java.text))).call()) {
+        throw new Refused("javac: " + messages(found, java, written));
       }
       return new Loader(outputs.classes).loadClass(outputs.main);
     }
 
-    private static String messages(DiagnosticCollector<JavaFileObject> found, String text) {
+    private static String messages(DiagnosticCollector<JavaFileObject> found, JavaText java, String written) {
       List<String> messages = new ArrayList<>();
       for (Diagnostic<?> each : found.getDiagnostics()) {
         if (each.getKind() == Diagnostic.Kind.ERROR) {
-          String message = each.getMessage(null).replace('\n', ' ').replace(';', ',');
-          messages.add(place(text, (int) place(each)) + " " + each.getCode() + " " + message);
+          String message = JavaText.asWritten(each.getMessage(null)).replace('\n', ' ').replace(';', ',');
+          messages.add(place(written, java.written((int) place(each))) + " " + each.getCode() + " " + message);
         }
       }
       return String.join("; ", messages);

@@ -1,5 +1,3 @@
-// the class beside this one may have the name Long
-import java.lang.Long;
 import java.util.HashMap;
 import java.util.Map;
 

@@ -9,7 +9,7 @@ public final class Vector {
   /** Zeros. */
   public Vector(int size) {
     if (size > MOST) {
-      throw new VectorLimit();
+      throw new Limit();
     }
     elements = new long[size];
   }
@@ -24,6 +24,20 @@ public final class Vector {
 
   public void set(int index, long value) {
     elements[index] = value;
+  }
+
+  /** The vector of an argument in a calls file: {@code [1,2]}. */
+  public static Vector valueOf(String word) {
+    if (!word.startsWith("[") || !word.endsWith("]")) {
+      throw new NumberFormatException(word);
+    }
+    String inner = word.substring(1, word.length() - 1);
+    String[] words = inner.isEmpty() ? new String[0] : inner.split(",", -1);
+    Vector made = new Vector(words.length);
+    for (int i = 0; i < words.length; i++) {
+      made.set(i, Long.parseLong(words[i]));
+    }
+    return made;
   }
 
   /** As in a report: {@code [1,2]}. */
