@@ -6,8 +6,12 @@ its parts are one statement.
 """
 
 import re
+import sys
 from dataclasses import dataclass, field
 from typing import Any
+
+# a class may nest 200 levels deep, and its helpers call one another
+sys.setrecursionlimit(50_000)
 
 TOKEN = re.compile(
     r"(?P<blank>[ \t\f\r\n]+|//[^\r\n]*|/\*.*?\*/)|(?P<name>[A-Za-z_$][A-Za-z0-9_$]*)|(?P<number>[0-9][0-9A-Za-z_]*)"
