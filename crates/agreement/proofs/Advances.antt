@@ -20,9 +20,9 @@ use Rattle.early_source.specs.Members.{fields, methods}
 use Rattle.early_source.specs.Blocks.{Place, AtMark, AtEnd}
 use Rattle.early_source.specs.Source.{CallState, Fresh, At, Ended, Source, nth, begins, begun, goes_on, moved, steps_from, state_of}
 use Rattle.placement.specs.Slots.{slot}
-use Rattle.task_code.specs.declared.graph.Graph.{Graph}
-use Rattle.task_code.specs.Machine.{runs}
-use Rattle.task_code.specs.Progress.{Progress}
+use Rattle.early_task_code.specs.declared.graph.Graph.{Graph}
+use Rattle.early_task_code.specs.Machine.{runs}
+use Rattle.early_task_code.specs.Progress.{Progress}
 use Rattle.cluster.specs.History.{IsCell, call_of, shown_entry}
 use Rattle.agreement.specs.Simulation.{Fitting, Simulation, entry_in, field_names, left}
 use Rattle.sdg_base.proofs.Ports.{same_port-refl, same_port-other}

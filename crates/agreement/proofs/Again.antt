@@ -17,7 +17,7 @@ use Rattle.placement.specs.declared.event.Event.{Event}
 use Rattle.placement.specs.declared.event.Event.TheVariants as event
 use Rattle.placement.specs.declared.event.Word.{Word}
 use Rattle.placement.specs.declared.event.Word.TheVariants as word
-use Rattle.task_code.specs.Progress.{Taken, Progress, progress_after}
+use Rattle.early_task_code.specs.Progress.{Taken, Progress, progress_after}
 use Rattle.cluster.specs.History.{Setup, Happening, Took, at_start, after_happening, cells_after, Follows, IsHistoryFrom, steps_of}
 use Rattle.cluster.specs.World.{World, first_world, cell, last_step, next_item, entry, take_item, next_result, with_commit, commit_item, event_of, after_events, words_of, cells_of, Offer, offers, lowest, event_for, after_offer, drained_for, most_events, world_of, results_of}
 use Rattle.agreement.specs.Simulation.{Simulation}

@@ -6,8 +6,8 @@ use Rattle.sdg_base.specs.declared.port.Port.{Port}
 use Rattle.sdg_base.specs.declared.item.Item.{Item}
 use Rattle.sdg_base.specs.Ports.{same_port}
 use Rattle.early_tables.specs.States.{State}
-use Rattle.task_code.specs.Machine.{Ran, Runs, runs}
-use Rattle.task_code.specs.Progress.{Taken, Progress, ran_or_nothing, outputs_to, progress_with, progress_after}
+use Rattle.early_task_code.specs.Machine.{Ran, Runs, runs}
+use Rattle.early_task_code.specs.Progress.{Taken, Progress, ran_or_nothing, outputs_to, progress_with, progress_after}
 use Rattle.cluster.specs.History.{Setup, after_entry}
 use Rattle.sdg_base.proofs.Ports.{same_port-true, same_port-refl}
 use Rattle.cluster.proofs.Lists.{last_or_before, still_there, at_end}

@@ -10,8 +10,8 @@ use Rattle.java_tree.specs.declared.tree.Class.{Class}
 use Rattle.early_tables.specs.Contents.{entry_at}
 use Rattle.early_source.specs.Members.{fields}
 use Rattle.early_source.specs.Source.{CallState, Fresh, Source, start, nth, step_from, steps_from}
-use Rattle.task_code.specs.declared.graph.Graph.{Graph}
-use Rattle.task_code.specs.Progress.{Taken, Progress}
+use Rattle.early_task_code.specs.declared.graph.Graph.{Graph}
+use Rattle.early_task_code.specs.Progress.{Taken, Progress}
 use Rattle.cluster.specs.History.{Setup, Happening, Took, at_start, starts_from, given_at_start, after_entry, after_happening, after_all, Follows, IsHistoryFrom, IsHistory, call_of, shown, steps_of}
 use Rattle.agreement.specs.Simulation.{Simulation, entries_in, field_names}
 use Rattle.agreement.proofs.Invariant.{Spot, InFlight, Present, Agreement}

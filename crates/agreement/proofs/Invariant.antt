@@ -12,7 +12,7 @@ use Rattle.early_tables.specs.States.{Nothing, OfTable}
 use Rattle.early_source.specs.Members.{fields}
 use Rattle.early_source.specs.Source.{CallState, Source, nth}
 use Rattle.placement.specs.Slots.{slot}
-use Rattle.task_code.specs.Progress.{Progress}
+use Rattle.early_task_code.specs.Progress.{Progress}
 use Rattle.cluster.specs.History.{given_at_start, call_of}
 use Rattle.agreement.specs.Simulation.{entry_in, field_names}
 

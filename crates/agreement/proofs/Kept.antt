@@ -13,7 +13,7 @@ use Rattle.java_tree.specs.declared.tree.Class.{Class}
 use Rattle.early_source.specs.Members.{fields}
 use Rattle.early_source.specs.Source.{CallState, Source, start, nth}
 use Rattle.placement.specs.declared.event.Event.{Event}
-use Rattle.task_code.specs.Progress.{Taken, Progress}
+use Rattle.early_task_code.specs.Progress.{Taken, Progress}
 use Rattle.cluster.specs.History.{Setup, Happening, Took, at_start, starts_from, starts, given_at_start, after_entry, after_happening, after_all, Follows, IsHistoryFrom, call_of, shown, shown_entry, steps_of}
 use Rattle.cluster.specs.World.{World, first_world, cell, last_step, committed, after_events, numbers_from, cells_of, offers, lowest, most_events, world_of, kept_by, kept}
 use Rattle.cluster.specs.Standing.{IsCellOf, place_of}

@@ -12,7 +12,7 @@ use Rattle.early_tables.specs.States.{State, Nothing}
 use Rattle.early_source.specs.Variables.{Tables}
 use Rattle.early_source.specs.Members.{fields}
 use Rattle.early_source.specs.Source.{CallState, Source, nth, with_state}
-use Rattle.task_code.specs.Progress.{Progress}
+use Rattle.early_task_code.specs.Progress.{Progress}
 use Rattle.cluster.specs.History.{call_of}
 use Rattle.agreement.specs.Simulation.{field_names}
 use Rattle.cluster.proofs.Lists.{set_same, set_other, set_as_many}

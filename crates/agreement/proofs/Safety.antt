@@ -16,9 +16,9 @@ use Rattle.early_source.specs.Variables.{Variables, Tables}
 use Rattle.early_source.specs.Members.{fields}
 use Rattle.early_source.specs.Source.{CallState, Fresh, At, state_of}
 use Rattle.early_source.specs.Blocks.{Place, AtMark, AtEnd}
-use Rattle.task_code.specs.declared.graph.Graph.{Graph}
-use Rattle.task_code.specs.Machine.{Ran, runs}
-use Rattle.task_code.specs.Safe.{IsStateOf, IsSafeFor, IsSafe}
+use Rattle.early_task_code.specs.declared.graph.Graph.{Graph}
+use Rattle.early_task_code.specs.Machine.{Ran, runs}
+use Rattle.early_task_code.specs.Safe.{IsStateOf, IsSafeFor, IsSafe}
 use Rattle.cluster.specs.History.{starts, starts_from}
 use Rattle.agreement.specs.Simulation.{Simulation, Fitting, entries_in, field_names}
 use Rattle.agreement.proofs.Histories.{AllFit}

@@ -17,7 +17,7 @@ use Rattle.java_tree.specs.declared.tree.Class.{Class}
 use Rattle.early_source.specs.Members.{fields}
 use Rattle.early_source.specs.Serial.{IsNotEarlier, IsSerial}
 use Rattle.early_source.specs.Source.{CallState, nth}
-use Rattle.task_code.specs.Progress.{Progress}
+use Rattle.early_task_code.specs.Progress.{Progress}
 use Rattle.cluster.specs.History.{Setup, Took, IsCell, given_at_start, call_of, shown_entry, shown, steps_of}
 use Rattle.cluster.specs.World.{World, first_world, cell, last_step, next_item, entry, with_entry, committed, next_result, with_commit, numbers_from, Offer, offers, lower, lowest_from, lowest, pick_of, after_offer, drained_for, world_of, most_events, result_of, results_of}
 use Rattle.agreement.specs.Simulation.{Simulation}

@@ -10,7 +10,7 @@ use Rattle.sdg_base.specs.Ports.{same_port}
 use Rattle.java_tree.specs.declared.tree.Class.{Class}
 use Rattle.early_tables.specs.States.{State}
 use Rattle.early_source.specs.Source.{CallState, Source, start, nth, steps_from}
-use Rattle.task_code.specs.Progress.{Progress}
+use Rattle.early_task_code.specs.Progress.{Progress}
 use Rattle.cluster.specs.History.{Setup, Happening, Took, IsCell, after_happening, after_all, at_start, Follows, HappensAfter, IsHistoryFrom, IsHistory, call_of, shown, steps_of}
 use Rattle.cluster.specs.World.{World, first_world, cell, next_item, entry, with_entry, committed, next_result, with_commit}
 use Rattle.agreement.specs.Simulation.{Simulation, left}

@@ -16,8 +16,8 @@ use Rattle.early_source.specs.Members.{fields, methods}
 use Rattle.early_source.specs.Blocks.{Place, run_block}
 use Rattle.early_source.specs.Source.{CallState, Fresh, At, Ended, begun, state_of}
 use Rattle.placement.specs.Slots.{slot}
-use Rattle.task_code.specs.declared.graph.Graph.{Graph}
-use Rattle.task_code.specs.Machine.{Runs, runs}
+use Rattle.early_task_code.specs.declared.graph.Graph.{Graph}
+use Rattle.early_task_code.specs.Machine.{Runs, runs}
 use Rattle.cluster.specs.History.{call_of}
 
 -- ---- tables by the number of their field, and by key

@@ -13,9 +13,9 @@ use Rattle.channels.specs.Sent.{trimmed, OutboxUnchanged}
 use Rattle.channels.specs.Outboxes.{outbox_of, SameButAt}
 use Rattle.channels.specs.Marks.{mark_of}
 use Rattle.early_tables.specs.States.{State}
-use Rattle.task_code.specs.declared.graph.Graph.{Graph}
-use Rattle.task_code.specs.Machine.{Runs, runs}
-use Rattle.task_code.specs.Progress.{Taken, Progress, progress_with, progress_after, ran_or_nothing, outputs_to}
+use Rattle.early_task_code.specs.declared.graph.Graph.{Graph}
+use Rattle.early_task_code.specs.Machine.{Runs, runs}
+use Rattle.early_task_code.specs.Progress.{Taken, Progress, progress_with, progress_after, ran_or_nothing, outputs_to}
 use Rattle.cell_machine.specs.declared.cell.Cell.{Cell}
 use Rattle.cell_machine.specs.Held.{state_held}
 use Rattle.cell_machine.specs.Shows.{Shows}

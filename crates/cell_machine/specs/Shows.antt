@@ -4,7 +4,7 @@ use Rattle.sdg_base.specs.declared.port.Port.{Port}
 use Rattle.channels.specs.Marks.{mark_of}
 use Rattle.channels.specs.Outboxes.{outbox_of}
 use Rattle.channels.specs.Sent.{trimmed}
-use Rattle.task_code.specs.Progress.{Progress}
+use Rattle.early_task_code.specs.Progress.{Progress}
 use Rattle.cell_machine.specs.declared.cell.Cell.{Cell}
 use Rattle.cell_machine.specs.Held.{state_held}
 

@@ -6,17 +6,17 @@ ghost use Rattle.sdg_base.specs.declared.port.Port.{Port};
 ghost use Rattle.channels.specs.Marks.{mark_of};
 ghost use Rattle.channels.specs.Outboxes.{outbox_of, SameButAt};
 ghost use Rattle.channels.specs.Sent.{item_of, trimmed};
-ghost use Rattle.task_code.specs.Machine.{runs};
-ghost use Rattle.task_code.specs.Progress.{Taken, Progress, progress_after, first_progress};
+ghost use Rattle.early_task_code.specs.Machine.{runs};
+ghost use Rattle.early_task_code.specs.Progress.{Taken, Progress, progress_after, first_progress};
 ghost use Rattle.cell_machine.specs.Held.{state_held};
 ghost use Rattle.cell_machine.specs.Shows.{Shows};
 
 use crate::state::CellState;
 use channels::{Marks, Outboxes};
 use early_tables::Table;
+use early_task_code::{Graph, run_task};
 use sdg_base::{Item, Port};
 use std::alloc::{AllocError, Global};
-use task_code::{Graph, run_task};
 
 /// What a cell holds, how far it took each channel, what it sent, and how many items it took in all.
 #[derive(Drop)]

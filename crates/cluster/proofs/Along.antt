@@ -8,10 +8,10 @@ use Rattle.sdg_base.specs.declared.item.Item.{Item}
 use Rattle.sdg_base.specs.declared.item.Item.TheVariants as item
 use Rattle.sdg_base.specs.Ports.{same_port}
 use Rattle.early_tables.specs.States.{State}
-use Rattle.task_code.specs.declared.graph.Graph.{Graph}
-use Rattle.task_code.specs.Machine.{Ran, Runs, runs}
-use Rattle.task_code.specs.Progress.{Taken, Progress, ran_or_nothing, outputs_to}
-use Rattle.task_code.specs.Safe.{IsStateOf, IsSafeFor, IsSafe}
+use Rattle.early_task_code.specs.declared.graph.Graph.{Graph}
+use Rattle.early_task_code.specs.Machine.{Ran, Runs, runs}
+use Rattle.early_task_code.specs.Progress.{Taken, Progress, ran_or_nothing, outputs_to}
+use Rattle.early_task_code.specs.Safe.{IsStateOf, IsSafeFor, IsSafe}
 use Rattle.cluster.specs.History.{Setup, Happening, at_start, starts, given_at_start, after_entry, IsCell, Follows, IsHistory, cells_after}
 use Rattle.cluster.specs.Results.{IsEnd}
 use Rattle.cluster.proofs.Lists.{all_append, all_at}

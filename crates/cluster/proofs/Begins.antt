@@ -6,7 +6,7 @@ use Rattle.sdg_base.specs.declared.port.Port.TheVariants as port
 use Rattle.sdg_base.specs.declared.call.Call.{Call}
 use Rattle.channels.specs.Outboxes.{outbox_of}
 use Rattle.channels.specs.Sent.{trimmed}
-use Rattle.task_code.specs.Progress.{first_progress}
+use Rattle.early_task_code.specs.Progress.{first_progress}
 use Rattle.cell_machine.specs.declared.cell.Cell.{Cell}
 use Rattle.cell_machine.specs.Shows.{Shows}
 use Rattle.cluster.specs.declared.cells.PortCell.{PortCell}

@@ -2,7 +2,7 @@
 use Rattle.std.proofs.Common.{◌≡◌, ℕ, ◌+◌, Bool, true, false, if◌then◌else◌, List, [], ◌∷◌, ◌++◌, length, refl, subst, sym, add-zero, arith}
 use Rattle.sdg_base.specs.declared.port.Port.{Port}
 use Rattle.sdg_base.specs.Ports.{same_port}
-use Rattle.task_code.specs.Progress.{Taken, Progress, progress_after}
+use Rattle.early_task_code.specs.Progress.{Taken, Progress, progress_after}
 use Rattle.sdg_base.proofs.Ports.{same_port-true}
 use Rattle.cluster.specs.History.{Setup, Happening, Took, after_entry, after_happening, after_all, Follows, HappensAfter, IsHistoryFrom}
 

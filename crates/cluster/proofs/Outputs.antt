@@ -11,14 +11,14 @@ use Rattle.sdg_base.specs.declared.item.Item.{Item}
 use Rattle.sdg_base.specs.declared.item.Item.TheVariants as item
 use Rattle.early_tables.specs.States.{State, arity, call_on}
 use Rattle.early_tables.specs.declared.method.Method.{Method}
-use Rattle.task_code.specs.declared.graph.Graph.{Graph}
-use Rattle.task_code.specs.declared.graph.GraphMethod.{GraphMethod}
-use Rattle.task_code.specs.declared.graph.Task.{Task}
-use Rattle.task_code.specs.declared.graph.TaskKind.TheVariants as task
-use Rattle.task_code.specs.declared.graph.TaskKind.{TaskKind}
-use Rattle.task_code.specs.declared.graph.Instr.{Instr}
-use Rattle.task_code.specs.declared.graph.Instr.TheVariants as instr
-use Rattle.task_code.specs.Machine.{Runs, Rest, Setting, carried, sent, sent_by_kind, cut_to, pushed, operated, casted, key_value, arguments, pushed_result, after_outcome, after_access, accessed, is_own_field, perform, run, start_method, run_in_method, run_task, runs, first_vars, carried_vars}
+use Rattle.early_task_code.specs.declared.graph.Graph.{Graph}
+use Rattle.early_task_code.specs.declared.graph.GraphMethod.{GraphMethod}
+use Rattle.early_task_code.specs.declared.graph.Task.{Task}
+use Rattle.early_task_code.specs.declared.graph.TaskKind.TheVariants as task
+use Rattle.early_task_code.specs.declared.graph.TaskKind.{TaskKind}
+use Rattle.early_task_code.specs.declared.graph.Instr.{Instr}
+use Rattle.early_task_code.specs.declared.graph.Instr.TheVariants as instr
+use Rattle.early_task_code.specs.Machine.{Runs, Rest, Setting, carried, sent, sent_by_kind, cut_to, pushed, operated, casted, key_value, arguments, pushed_result, after_outcome, after_access, accessed, is_own_field, perform, run, start_method, run_in_method, run_task, runs, first_vars, carried_vars}
 
 -- a result, where it is for the sink
 abbrev pub IsGiven : Port → Item → Type 0

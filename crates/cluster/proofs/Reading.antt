@@ -15,10 +15,10 @@ use Rattle.placement.specs.declared.event.Header.{Header}
 use Rattle.channels.specs.Marks.{mark_of}
 use Rattle.channels.specs.Outboxes.{outbox_of}
 use Rattle.channels.specs.Sent.{trimmed}
-use Rattle.task_code.specs.declared.graph.Graph.{Graph}
-use Rattle.task_code.specs.Machine.{runs}
-use Rattle.task_code.specs.Progress.{Progress}
-use Rattle.task_code.specs.Safe.{IsStateOf, IsSafe}
+use Rattle.early_task_code.specs.declared.graph.Graph.{Graph}
+use Rattle.early_task_code.specs.Machine.{runs}
+use Rattle.early_task_code.specs.Progress.{Progress}
+use Rattle.early_task_code.specs.Safe.{IsStateOf, IsSafe}
 use Rattle.cell_machine.specs.declared.cell.Cell.{Cell}
 use Rattle.cell_machine.specs.Held.{state_held}
 use Rattle.cluster.specs.declared.cells.PortCell.{PortCell}

@@ -13,7 +13,7 @@ use Rattle.sdg_base.specs.Ports.{same_port}
 use Rattle.channels.specs.declared.outbox.Outbox.{Outbox}
 use Rattle.channels.specs.Outboxes.{outbox_of, SameButAt}
 use Rattle.channels.specs.Sent.{trimmed, OutboxUnchanged}
-use Rattle.task_code.specs.Progress.{Taken, Progress, progress_after}
+use Rattle.early_task_code.specs.Progress.{Taken, Progress, progress_after}
 use Rattle.cell_machine.specs.declared.cell.Cell.{Cell}
 use Rattle.cell_machine.specs.Shows.{Shows}
 use Rattle.cluster.specs.declared.cells.PortCell.{PortCell}

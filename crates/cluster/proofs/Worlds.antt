@@ -10,7 +10,7 @@ use Rattle.sdg_base.specs.declared.item.Item.{Item}
 use Rattle.sdg_base.specs.declared.item.Item.TheVariants as item
 use Rattle.sdg_base.specs.declared.val.Outcome.{Outcome}
 use Rattle.sdg_base.specs.Ports.{same_port}
-use Rattle.task_code.specs.Progress.{Taken, Progress, progress_after}
+use Rattle.early_task_code.specs.Progress.{Taken, Progress, progress_after}
 use Rattle.cluster.specs.History.{Setup, Took, after_entry, at_start, IsCell}
 use Rattle.cluster.specs.World.{World, first_world, cell, next_item, entry, with_entry, committed, next_result, with_commit, result_in, result_of, results_of, last_step}
 use Rattle.cluster.specs.Standing.{IsReady, IsReached, IsGiven}

@@ -2,7 +2,7 @@
 use Rattle.std.specs.Prelude.{ℕ, List, map}
 use Rattle.sdg_base.specs.declared.port.Port.{Port}
 use Rattle.sdg_base.specs.declared.port.Port.TheVariants as port
-use Rattle.task_code.specs.Progress.{first_progress}
+use Rattle.early_task_code.specs.Progress.{first_progress}
 use Rattle.cell_machine.specs.Shows.{Shows}
 use Rattle.cluster.specs.declared.cells.PortCell.{PortCell}
 use Rattle.cluster.specs.World.{numbers_from}

@@ -10,8 +10,8 @@ use Rattle.sdg_base.specs.declared.item.Item.{Item}
 use Rattle.sdg_base.specs.declared.item.Item.TheVariants as item
 use Rattle.sdg_base.specs.Ports.{same_port}
 use Rattle.placement.specs.declared.event.Header.{Header}
-use Rattle.task_code.specs.declared.graph.Graph.{Graph}
-use Rattle.task_code.specs.Progress.{Taken, Progress, progress_after, state_at_start}
+use Rattle.early_task_code.specs.declared.graph.Graph.{Graph}
+use Rattle.early_task_code.specs.Progress.{Taken, Progress, progress_after, state_at_start}
 
 -- what a run stands on
 pub record Setup : Type 0 where

@@ -11,8 +11,8 @@ use Rattle.placement.specs.declared.event.Event.TheVariants as event
 use Rattle.placement.specs.Ports.{IsCellAmong, IsSenderAmong}
 use Rattle.channels.specs.Outboxes.{outbox_of}
 use Rattle.channels.specs.Sent.{trimmed}
-use Rattle.task_code.specs.declared.graph.Graph.{Graph}
-use Rattle.task_code.specs.Safe.{IsSafe}
+use Rattle.early_task_code.specs.declared.graph.Graph.{Graph}
+use Rattle.early_task_code.specs.Safe.{IsSafe}
 use Rattle.cell_machine.specs.declared.cell.Cell.{Cell}
 use Rattle.cell_machine.specs.Shows.{Shows}
 use Rattle.cluster.specs.declared.cells.PortCell.{PortCell}

@@ -11,7 +11,7 @@ use Rattle.placement.specs.declared.event.Event.{Event}
 use Rattle.placement.specs.declared.event.Event.TheVariants as event
 use Rattle.placement.specs.declared.event.Word.{Word}
 use Rattle.placement.specs.declared.event.Word.TheVariants as word
-use Rattle.task_code.specs.Progress.{Taken, Progress}
+use Rattle.early_task_code.specs.Progress.{Taken, Progress}
 use Rattle.cluster.specs.History.{Setup, Happening, Took, cells_after, call_of}
 
 -- What happened, which results were committed, in their order, by port and number, and the number of the next step. All else follows from these.

@@ -9,11 +9,11 @@ use crate::cells::{Cells, first_cells, place_of};
 use crate::items::{call_of, ended_of};
 use crate::offer::{Offer, lower_of};
 use crate::past::{Commits, Committed, Ended, Past, Pasts};
+use early_task_code::Graph;
 use placement::{Event, Header, Word};
 use sdg_base::{Calls, Entry, Item, Line, Note, Port, Step, copy_item, copy_values};
 use sqlite_items::Items;
 use std::alloc::{AllocError, Global};
-use task_code::Graph;
 
 /// What a run has come to. Step numbers begin at 1.
 ///

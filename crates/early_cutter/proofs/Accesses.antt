@@ -15,10 +15,10 @@ use Rattle.early_source.specs.Expressions.{long_of, cons_if}
 use Rattle.early_source.specs.Sites.{Key, LiteralKey, VariableKey, Compound}
 use Rattle.early_source.specs.Blocks.{accessed, with_args}
 use Rattle.agreement.specs.Simulation.{entries_in, entry_in, field_names}
-use Rattle.task_code.specs.declared.graph.Instr.{Instr}
-use Rattle.task_code.specs.declared.graph.Instr.TheVariants as instr
-use Rattle.task_code.specs.Machine as machine
-use Rattle.task_code.specs.Machine.{Setting, Runs, run, pushed, key_value, is_own_field, arguments}
+use Rattle.early_task_code.specs.declared.graph.Instr.{Instr}
+use Rattle.early_task_code.specs.declared.graph.Instr.TheVariants as instr
+use Rattle.early_task_code.specs.Machine as machine
+use Rattle.early_task_code.specs.Machine.{Setting, Runs, run, pushed, key_value, is_own_field, arguments}
 use Rattle.early_plain.specs.Keys.{written_key}
 use Rattle.early_cutter.specs.Points.{number_in}
 use Rattle.early_cutter.specs.Lowering.{argument_code}

@@ -28,11 +28,11 @@ use Rattle.early_source.specs.Expressions.{as_long}
 use Rattle.early_source.specs.Sites.{Access, access_of, site_of, same_site, after_declaration}
 use Rattle.early_source.specs.Blocks.{accessed, AtEnd, Stop, run_from, run_block, first_of_list, marked_access, finish, finish_with, declared, ended, plainly, plain_value, statement_value, reach}
 use Rattle.agreement.specs.Simulation.{entry_in}
-use Rattle.task_code.specs.declared.graph.GraphMethod.{GraphMethod}
-use Rattle.task_code.specs.declared.graph.Instr.{Instr}
-use Rattle.task_code.specs.declared.graph.Instr.TheVariants as instr
-use Rattle.task_code.specs.Machine as machine
-use Rattle.task_code.specs.Machine.{Setting, Runs, run}
+use Rattle.early_task_code.specs.declared.graph.GraphMethod.{GraphMethod}
+use Rattle.early_task_code.specs.declared.graph.Instr.{Instr}
+use Rattle.early_task_code.specs.declared.graph.Instr.TheVariants as instr
+use Rattle.early_task_code.specs.Machine as machine
+use Rattle.early_task_code.specs.Machine.{Setting, Runs, run}
 use Rattle.early_plain.specs.Keys.{written_site}
 use Rattle.early_cutter.specs.Points.{Point, number_in, point_after}
 use Rattle.early_cutter.specs.Sums.{long_code}

@@ -7,7 +7,7 @@ use Rattle.early_forms.specs.declared.straight.Statement.{Statement}
 use Rattle.early_forms.specs.declared.straight.Statement.TheVariants.{Get, Set, Put}
 use Rattle.early_forms.specs.declared.straight.Ending.{Ending}
 use Rattle.early_forms.specs.Names.{locals}
-use Rattle.task_code.specs.declared.graph.Instr.{Instr}
+use Rattle.early_task_code.specs.declared.graph.Instr.{Instr}
 use Rattle.early_cutter.specs.Points.{Point, point_after}
 use Rattle.early_cutter.specs.Lowering.{statement_code, body_code, point_at_end}
 

@@ -4,12 +4,12 @@ use Rattle.sdg_base.specs.declared.val.Num.TheVariants as num
 use Rattle.sdg_base.specs.declared.operator.BinOp.TheVariants as bin
 use Rattle.sdg_base.specs.declared.store.ClassName.TheVariants as class_name
 use Rattle.early_tables.specs.declared.method.Method.TheVariants as method
-use Rattle.task_code.specs.declared.graph.Instr.TheVariants as instr
-use Rattle.task_code.specs.declared.graph.TaskKind.TheVariants as task_kind
-use Rattle.task_code.specs.declared.graph.VarType.TheVariants as var_type
-use Rattle.task_code.specs.declared.graph.MethodKind.TheVariants as method_kind
-use Rattle.task_code.specs.declared.graph.FieldKind.TheVariants as field_kind
-use Rattle.task_code.specs.declared.graph.Graph.{Graph}
+use Rattle.early_task_code.specs.declared.graph.Instr.TheVariants as instr
+use Rattle.early_task_code.specs.declared.graph.TaskKind.TheVariants as task_kind
+use Rattle.early_task_code.specs.declared.graph.VarType.TheVariants as var_type
+use Rattle.early_task_code.specs.declared.graph.MethodKind.TheVariants as method_kind
+use Rattle.early_task_code.specs.declared.graph.FieldKind.TheVariants as field_kind
+use Rattle.early_task_code.specs.declared.graph.Graph.{Graph}
 use Rattle.early_forms.specs.declared.straight.Atom.TheVariants.{Literal, Variable}
 use Rattle.early_forms.specs.declared.straight.Sum.{Sum}
 use Rattle.early_forms.specs.declared.straight.Statement.TheVariants.{Get, Put}

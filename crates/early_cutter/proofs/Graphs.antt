@@ -14,10 +14,10 @@ use Rattle.early_forms.specs.Names.{variables, locals}
 use Rattle.early_forms.specs.Trees.{class_tree, method_tree, table_member, method_member, long_parameter}
 use Rattle.early_source.specs.Variables.{named}
 use Rattle.early_source.specs.Members.{field_name, method_in, fields, methods, variables_of}
-use Rattle.task_code.specs.declared.graph.VarType.TheVariants as var
-use Rattle.task_code.specs.declared.graph.Task.{Task}
-use Rattle.task_code.specs.declared.graph.GraphMethod.{GraphMethod}
-use Rattle.task_code.specs.Machine.{first_vars}
+use Rattle.early_task_code.specs.declared.graph.VarType.TheVariants as var
+use Rattle.early_task_code.specs.declared.graph.Task.{Task}
+use Rattle.early_task_code.specs.declared.graph.GraphMethod.{GraphMethod}
+use Rattle.early_task_code.specs.Machine.{first_vars}
 use Rattle.early_cutter.specs.Points.{number_in}
 use Rattle.early_cutter.specs.Lowering.{first_point, lowered, lowered_method, lowered_methods, task_behind}
 use Rattle.early_cutter.specs.Cutting.{cut_tasks, method_tasks, tasks_from}

@@ -10,13 +10,13 @@ use Rattle.sdg_base.specs.declared.val.Outcome.{Outcome}
 use Rattle.sdg_base.specs.declared.val.Outcome.TheVariants as outcome
 use Rattle.early_tables.specs.declared.method.Method.{Method}
 use Rattle.early_tables.specs.States.{State, arity, call_on}
-use Rattle.task_code.specs.declared.graph.Graph.{Graph}
-use Rattle.task_code.specs.declared.graph.Task.{Task}
-use Rattle.task_code.specs.declared.graph.TaskKind.{TaskKind}
-use Rattle.task_code.specs.declared.graph.TaskKind.TheVariants as task
-use Rattle.task_code.specs.declared.graph.Instr.{Instr}
-use Rattle.task_code.specs.declared.graph.Instr.TheVariants as instr
-use Rattle.task_code.specs.Machine.{Setting, Runs, Rest, run, perform, pushed, operated, casted, key_value, carried, cons_some, sent, sent_by_kind, cut_to, arguments, pushed_result, after_outcome, after_access, accessed, is_own_field, set_all}
+use Rattle.early_task_code.specs.declared.graph.Graph.{Graph}
+use Rattle.early_task_code.specs.declared.graph.Task.{Task}
+use Rattle.early_task_code.specs.declared.graph.TaskKind.{TaskKind}
+use Rattle.early_task_code.specs.declared.graph.TaskKind.TheVariants as task
+use Rattle.early_task_code.specs.declared.graph.Instr.{Instr}
+use Rattle.early_task_code.specs.declared.graph.Instr.TheVariants as instr
+use Rattle.early_task_code.specs.Machine.{Setting, Runs, Rest, run, perform, pushed, operated, casted, key_value, carried, cons_some, sent, sent_by_kind, cut_to, arguments, pushed_result, after_outcome, after_access, accessed, is_own_field, set_all}
 use Rattle.early_cutter.specs.Liveness.{is_live, live_variables}
 use Rattle.early_cutter.proofs.Lists.{IsAmong, EachPasses, length-slice_set, get-set_same, get-set_other, get_within, among_filter}
 

@@ -14,10 +14,10 @@ use Rattle.early_tables.specs.States.{State}
 use Rattle.early_source.specs.Variables.{Variables, Tables}
 use Rattle.early_source.specs.Blocks.{AtMark, AtEnd, reach}
 use Rattle.placement.specs.Slots.{slot}
-use Rattle.task_code.specs.declared.graph.GraphMethod.{GraphMethod}
-use Rattle.task_code.specs.declared.graph.Instr.{Instr}
-use Rattle.task_code.specs.declared.graph.Instr.TheVariants as instr
-use Rattle.task_code.specs.Machine.{Setting, run, carried, cut_to, sent}
+use Rattle.early_task_code.specs.declared.graph.GraphMethod.{GraphMethod}
+use Rattle.early_task_code.specs.declared.graph.Instr.{Instr}
+use Rattle.early_task_code.specs.declared.graph.Instr.TheVariants as instr
+use Rattle.early_task_code.specs.Machine.{Setting, run, carried, cut_to, sent}
 use Rattle.early_cutter.specs.Points.{Point, number_in}
 use Rattle.early_cutter.specs.Sums.{long_code}
 use Rattle.early_cutter.specs.Liveness.{live_variables}

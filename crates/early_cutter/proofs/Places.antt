@@ -16,10 +16,10 @@ use Rattle.early_forms.specs.declared.straight.Ending.{Ending}
 use Rattle.early_forms.specs.declared.straight.Ending.TheVariants as ending
 use Rattle.early_source.specs.Sites.{Key, LiteralKey, VariableKey, Compound, same_site}
 use Rattle.early_tables.specs.declared.method.Method.TheVariants as method
-use Rattle.task_code.specs.declared.graph.Graph.{Graph}
-use Rattle.task_code.specs.declared.graph.Task.{Task}
-use Rattle.task_code.specs.declared.graph.Instr.{Instr}
-use Rattle.task_code.specs.declared.graph.Instr.TheVariants as instr
+use Rattle.early_task_code.specs.declared.graph.Graph.{Graph}
+use Rattle.early_task_code.specs.declared.graph.Task.{Task}
+use Rattle.early_task_code.specs.declared.graph.Instr.{Instr}
+use Rattle.early_task_code.specs.declared.graph.Instr.TheVariants as instr
 use Rattle.early_plain.specs.Keys.{written_key, written_site}
 use Rattle.early_cutter.specs.Points.{Point, number_in, point_after}
 use Rattle.early_cutter.specs.Sums.{type_of, promoted, atom_code, cast_code, plus_code, others_code, long_code}

@@ -13,9 +13,9 @@ use Rattle.sdg_base.specs.declared.val.Outcome.TheVariants as outcome
 use Rattle.sdg_base.specs.declared.port.Port.TheVariants as port
 use Rattle.sdg_base.specs.declared.item.Item.TheVariants as item
 use Rattle.early_tables.specs.States.{Nothing, OfTable}
-use Rattle.task_code.specs.Machine.{runs}
-use Rattle.task_code.specs.declared.graph.Instr.TheVariants as instr
-use Rattle.task_code.specs.declared.graph.TaskKind.TheVariants as task
+use Rattle.early_task_code.specs.Machine.{runs}
+use Rattle.early_task_code.specs.declared.graph.Instr.TheVariants as instr
+use Rattle.early_task_code.specs.declared.graph.TaskKind.TheVariants as task
 use Rattle.early_cutter.specs.Cutting.{graph_of}
 
 abbrev name : List ℕ → Sum

@@ -23,8 +23,8 @@ use Rattle.early_source.specs.Members.{fields, methods, variables_of}
 use Rattle.early_source.specs.Blocks.{Stop, run_from, run_block}
 use Rattle.early_source.specs.Source.{CallState, Fresh, At, Ended, begun}
 use Rattle.agreement.specs.Simulation.{entry_in, field_names, Begins, Continues, Fitting, Simulation}
-use Rattle.task_code.specs.declared.graph.Task.{Task}
-use Rattle.task_code.specs.Machine.{Setting, Runs, run, runs, start_method, run_task, run_in_method, first_vars, carried_vars}
+use Rattle.early_task_code.specs.declared.graph.Task.{Task}
+use Rattle.early_task_code.specs.Machine.{Setting, Runs, run, runs, start_method, run_task, run_in_method, first_vars, carried_vars}
 use Rattle.early_cutter.specs.Lowering.{first_point, lowered, lowered_method, task_behind, table_field}
 use Rattle.early_cutter.specs.Cutting.{cut_tasks, graph_of, keyed_task}
 use Rattle.early_plain.specs.Fits.{IsLong, CallFits}

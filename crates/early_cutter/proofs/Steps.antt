@@ -20,8 +20,8 @@ use Rattle.early_source.specs.Sites.{Key, LiteralKey, VariableKey, Compound, Sit
 use Rattle.early_source.specs.Blocks.{Place, Stop, run_from, run_block}
 use Rattle.early_source.specs.Source.{state_of}
 use Rattle.agreement.specs.Simulation.{entry_in, field_names, left, Gives}
-use Rattle.task_code.specs.declared.graph.GraphMethod.{GraphMethod}
-use Rattle.task_code.specs.Machine.{Setting, Runs, run}
+use Rattle.early_task_code.specs.declared.graph.GraphMethod.{GraphMethod}
+use Rattle.early_task_code.specs.Machine.{Setting, Runs, run}
 use Rattle.early_plain.specs.Keys.{written_key, written_site}
 use Rattle.early_cutter.specs.Points.{Point, number_in}
 use Rattle.early_cutter.specs.Lowering.{body_code}

@@ -13,9 +13,9 @@ use Rattle.early_forms.specs.declared.straight.Sum.{Sum}
 use Rattle.early_forms.specs.Names.{AtomIsKnown, SumIsKnown}
 use Rattle.early_tables.specs.States.{State}
 use Rattle.early_source.specs.Variables.{Variables, named}
-use Rattle.task_code.specs.declared.graph.Instr.{Instr}
-use Rattle.task_code.specs.declared.graph.Instr.TheVariants as instr
-use Rattle.task_code.specs.Machine.{Setting, run, pushed}
+use Rattle.early_task_code.specs.declared.graph.Instr.{Instr}
+use Rattle.early_task_code.specs.declared.graph.Instr.TheVariants as instr
+use Rattle.early_task_code.specs.Machine.{Setting, run, pushed}
 use Rattle.early_cutter.specs.Points.{number_in}
 use Rattle.early_cutter.specs.Sums.{type_of, promoted, atom_code, cast_code, plus_code, others_code, long_code}
 use Rattle.early_plain.specs.Results.{atom_value}

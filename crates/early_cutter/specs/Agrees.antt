@@ -18,11 +18,11 @@ use Rattle.early_source.specs.Variables.{Variables, named}
 use Rattle.early_source.specs.Source.{CallState, Fresh, At, Ended}
 use Rattle.early_tables.specs.declared.method.Method.TheVariants as method
 use Rattle.placement.specs.Slots.{slot}
-use Rattle.task_code.specs.declared.graph.Instr.{Instr}
-use Rattle.task_code.specs.declared.graph.Instr.TheVariants as instr
-use Rattle.task_code.specs.declared.graph.GraphMethod.{GraphMethod}
-use Rattle.task_code.specs.declared.graph.Graph.{Graph}
-use Rattle.task_code.specs.Machine.{carried}
+use Rattle.early_task_code.specs.declared.graph.Instr.{Instr}
+use Rattle.early_task_code.specs.declared.graph.Instr.TheVariants as instr
+use Rattle.early_task_code.specs.declared.graph.GraphMethod.{GraphMethod}
+use Rattle.early_task_code.specs.declared.graph.Graph.{Graph}
+use Rattle.early_task_code.specs.Machine.{carried}
 use Rattle.early_plain.specs.Keys.{written_key}
 use Rattle.early_cutter.specs.Points.{Point, number_in, point_after}
 use Rattle.early_cutter.specs.Sums.{long_code}

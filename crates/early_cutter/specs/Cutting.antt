@@ -1,12 +1,12 @@
 -- The tasks of a class's flat code, and the class as a graph.
 use Rattle.std.specs.Prelude.{ℕ, ◌+◌, List, [], ◌∷◌, ◌++◌, length, map, Option, Some, None}
 use Rattle.std.specs.List.{range_with_len}
-use Rattle.task_code.specs.declared.graph.Instr.{Instr}
-use Rattle.task_code.specs.declared.graph.Instr.TheVariants as instr
-use Rattle.task_code.specs.declared.graph.TaskKind.TheVariants as task_kind
-use Rattle.task_code.specs.declared.graph.GraphMethod.{GraphMethod}
-use Rattle.task_code.specs.declared.graph.Task.{Task}
-use Rattle.task_code.specs.declared.graph.Graph.{Graph}
+use Rattle.early_task_code.specs.declared.graph.Instr.{Instr}
+use Rattle.early_task_code.specs.declared.graph.Instr.TheVariants as instr
+use Rattle.early_task_code.specs.declared.graph.TaskKind.TheVariants as task_kind
+use Rattle.early_task_code.specs.declared.graph.GraphMethod.{GraphMethod}
+use Rattle.early_task_code.specs.declared.graph.Task.{Task}
+use Rattle.early_task_code.specs.declared.graph.Graph.{Graph}
 use Rattle.early_forms.specs.declared.straight.StraightClass.{StraightClass}
 use Rattle.early_cutter.specs.Lowering.{lowered_methods, table_field}
 use Rattle.early_cutter.specs.Liveness.{live_variables}

@@ -1,8 +1,8 @@
 -- Which variables are live before code that runs straight through: those that it reads before it stores into them.
 use Rattle.std.specs.Prelude.{ℕ, Bool, false, not, ◌==◌, ◌&&◌, ◌||◌, List, [], ◌∷◌, filter}
 use Rattle.std.specs.List.{range_with_len}
-use Rattle.task_code.specs.declared.graph.Instr.{Instr}
-use Rattle.task_code.specs.declared.graph.Instr.TheVariants as instr
+use Rattle.early_task_code.specs.declared.graph.Instr.{Instr}
+use Rattle.early_task_code.specs.declared.graph.Instr.TheVariants as instr
 
 -- whether a variable that is live behind an instruction, or not, is live before it
 abbrev pub is_live_before : Instr → Bool → ℕ → Bool

@@ -3,14 +3,14 @@ use Rattle.std.specs.Prelude.{ℕ, ◌+◌, if◌then◌else◌, List, [], ◌�
 use Rattle.sdg_base.specs.declared.store.ClassName.TheVariants as class_name
 use Rattle.early_tables.specs.declared.method.Method.TheVariants as method
 use Rattle.early_source.specs.Sites.{Key, Compound, same_site}
-use Rattle.task_code.specs.declared.graph.Instr.{Instr}
-use Rattle.task_code.specs.declared.graph.Instr.TheVariants as instr
-use Rattle.task_code.specs.declared.graph.VarType.{VarType}
-use Rattle.task_code.specs.declared.graph.VarType.TheVariants as var_type
-use Rattle.task_code.specs.declared.graph.MethodKind.TheVariants as method_kind
-use Rattle.task_code.specs.declared.graph.FieldKind.TheVariants as field_kind
-use Rattle.task_code.specs.declared.graph.GraphField.{GraphField}
-use Rattle.task_code.specs.declared.graph.GraphMethod.{GraphMethod}
+use Rattle.early_task_code.specs.declared.graph.Instr.{Instr}
+use Rattle.early_task_code.specs.declared.graph.Instr.TheVariants as instr
+use Rattle.early_task_code.specs.declared.graph.VarType.{VarType}
+use Rattle.early_task_code.specs.declared.graph.VarType.TheVariants as var_type
+use Rattle.early_task_code.specs.declared.graph.MethodKind.TheVariants as method_kind
+use Rattle.early_task_code.specs.declared.graph.FieldKind.TheVariants as field_kind
+use Rattle.early_task_code.specs.declared.graph.GraphField.{GraphField}
+use Rattle.early_task_code.specs.declared.graph.GraphMethod.{GraphMethod}
 use Rattle.early_forms.specs.declared.straight.Sum.{Sum}
 use Rattle.early_forms.specs.declared.straight.Statement.{Statement}
 use Rattle.early_forms.specs.declared.straight.Statement.TheVariants.{Get, Set, Put}

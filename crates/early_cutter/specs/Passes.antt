@@ -1,6 +1,6 @@
 -- What the pass over a method's code from its end knows behind a place.
 use Rattle.std.specs.Prelude.{◌≡◌, ℕ, List, reverse}
-use Rattle.task_code.specs.declared.graph.Instr.{Instr}
+use Rattle.early_task_code.specs.declared.graph.Instr.{Instr}
 use Rattle.early_cutter.specs.declared.cutting.Behind.{Behind}
 use Rattle.early_cutter.specs.Liveness.{live_variables}
 use Rattle.early_cutter.specs.Cutting.{first_field, cut_tasks}

@@ -13,7 +13,7 @@ use Rattle.early_source.specs.Source.{numbered}
 use Rattle.early_plain.specs.Plain.{ArePlain}
 use Rattle.placement.specs.declared.event.Header.{Header}
 use Rattle.placement.specs.declared.event.Event.{Event}
-use Rattle.task_code.specs.Safe.{IsSafe}
+use Rattle.early_task_code.specs.Safe.{IsSafe}
 use Rattle.cluster.specs.History.{Setup, starts, steps_of}
 use Rattle.cluster.specs.World.{World, world_of, results_of, kept, numbers_from}
 use Rattle.agreement.specs.Results.{Results, HasResult, RunAgrees, IsForCell, AreEnoughSteps}

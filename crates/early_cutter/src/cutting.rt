@@ -2,16 +2,16 @@
 
 ghost use Rattle.std.specs.Prelude.{◌≡◌, ◌∷◌, ◌++◌, ◌≤◌, ◌^◌, [], ◌<◌, ◌-◌, ℕ, List, OnOk, IfOk, length, reverse};
 ghost use Rattle.std.specs.List.{range_with_len};
-ghost use Rattle.task_code.specs.declared.graph.Instr.{Instr};
+ghost use Rattle.early_task_code.specs.declared.graph.Instr.{Instr};
 ghost use Rattle.early_cutter.specs.Cutting.{field_before, task_of_cut, start_task, cut_tasks, method_tasks, tasks_from};
 ghost use Rattle.early_cutter.specs.Passes.{IsBehind};
 
 use crate::liveness::{rising, step_back};
 use crate::point::small;
+use early_task_code::{GraphMethod, Instr, Task, TaskKind};
 use sqlite_items::Items;
 use std::alloc::{AllocError, Global};
 use std::collections::BTreeSet;
-use task_code::{GraphMethod, Instr, Task, TaskKind};
 
 /// What is known behind a place in a method's code: the live variables, the field of the first
 /// access, and the tasks of the cuts, the last first.

@@ -15,6 +15,7 @@ mod sums;
 
 use cutting::tasks_of;
 use early_forms::StraightClass;
+use early_task_code::{FieldKind, Graph, GraphField};
 pub use laws::{
     every_call_is_safe, every_run_agrees, every_run_keeps_its_steps, every_run_runs_again,
     graph_simulates, ordered_runs_are_plain, plain_runs_in_turn, serial_runs_are_plain,
@@ -23,7 +24,6 @@ use lowering::lowered_methods;
 use sdg_base::{ClassName, Name};
 use sqlite_items::Items;
 use std::alloc::{AllocError, Global};
-use task_code::{FieldKind, Graph, GraphField};
 
 fn table_fields(alloc: Global, names: &[Name]) -> Result<Items<GraphField>, AllocError>
     ensures { IfOk result (λ fields. fields ≡ map table_field names.now) }

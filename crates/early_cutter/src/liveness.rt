@@ -4,10 +4,10 @@ ghost use Rattle.std.specs.Prelude.{◌≡◌, ℕ, Bool, filter, OnOk, IfOk};
 ghost use Rattle.std.specs.List.{range_with_len};
 ghost use Rattle.early_cutter.specs.Liveness.{is_live_before};
 
+use early_task_code::Instr;
 use sqlite_items::Items;
 use std::alloc::{AllocError, Global};
 use std::collections::BTreeSet;
-use task_code::Instr;
 
 /// The live variables before an instruction, from those behind it. Of a method's variables, `count`
 /// in number, no other is held.

@@ -1,7 +1,7 @@
 //! The flat code of methods.
 
 ghost use Rattle.std.specs.Prelude.{◌≡◌, ◌∷◌, ◌++◌, ◌<◌, ◌≤◌, ◌^◌, [], ℕ, List, OnOk, IfOk, All, length, replicate};
-ghost use Rattle.task_code.specs.declared.graph.VarType.TheVariants as var_type;
+ghost use Rattle.early_task_code.specs.declared.graph.VarType.TheVariants as var_type;
 ghost use Rattle.early_forms.specs.Names.{variables};
 ghost use Rattle.early_cutter.specs.Bounds.{SumFits, StatementFits, EndingFits, MethodFits};
 ghost use Rattle.early_plain.specs.Keys.{written_key};
@@ -14,10 +14,10 @@ use crate::sums::add_long;
 use early_forms::{Ending, Statement, StraightMethod, Sum};
 use early_plain::{Site, is_ended, is_same};
 use early_tables::Method;
+use early_task_code::{GraphMethod, Instr, MethodKind, VarType};
 use sdg_base::Name;
 use sqlite_items::Items;
 use std::alloc::{AllocError, Global};
-use task_code::{GraphMethod, Instr, MethodKind, VarType};
 
 fn field_number(fields: &[Name], name: &Name) -> u16
     requires { length fields.now < 2 ^ 16 }

@@ -7,10 +7,10 @@ ghost use Rattle.early_cutter.specs.Sums.{type_of, promoted, atom_code, cast_cod
 
 use crate::point::{Scope, number_of};
 use early_forms::{Atom, Sum};
+use early_task_code::Instr;
 use sdg_base::{BinOp, Num};
 use sqlite_items::Items;
 use std::alloc::AllocError;
-use task_code::Instr;
 
 fn type_of(atom: &Atom) -> Num
     ensures { result ≡ type_of atom.now }

@@ -2,9 +2,9 @@
 
 use crate::texts::class_of;
 use early_cutter::graph_of;
+use early_task_code::{Graph, Instr, TaskKind};
 use std::alloc::{AllocError, Global};
 use std::test::*;
-use task_code::{Graph, Instr, TaskKind};
 
 fn is_code_of_one_get(graph: &Graph) -> bool {
     match graph.methods.as_slice() {

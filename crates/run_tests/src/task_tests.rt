@@ -3,11 +3,13 @@
 ghost use Rattle.std.specs.Prelude.{◌≡◌, ℕ, [], ◌∷◌, IfOk, List};
 
 use early_tables::{Method, Table};
+use early_task_code::{
+    Graph, GraphMethod, Instr, MethodKind, Out, Task, TaskKind, VarType, run_task,
+};
 use sdg_base::{BinOp, Item, Name, Num, Outcome, Port, Val, Vals};
 use sqlite_items::Items;
 use std::alloc::{AllocError, Global};
 use std::test::*;
-use task_code::{Graph, GraphMethod, Instr, MethodKind, Out, Task, TaskKind, VarType, run_task};
 
 /// `long add(long k, int n)`: a cut before the read, and one before the write, each at key `k`.
 const ADD: [Instr; 15] = [

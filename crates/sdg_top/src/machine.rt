@@ -19,10 +19,10 @@ use early_cutter::{
     graph_of, ordered_runs_are_plain, plain_runs_in_turn, serial_runs_are_plain,
 };
 use early_forms::StraightClass;
+use early_task_code::Graph;
 use placement::{Event, Schedule, Word};
 use sdg_base::{Bytes, Calls};
 use std::alloc::{AllocError, Global};
-use task_code::Graph;
 
 /// Takes events one after the other, and answers their words.
 fn take_events(

@@ -5,7 +5,7 @@ use Rattle.std.proofs.lemmas.Result.{IfOk-weaker}
 use Rattle.placement.specs.declared.event.Event.{Event}
 use Rattle.placement.specs.declared.event.Header.{Header}
 use Rattle.placement.specs.declared.event.Word.{Word}
-use Rattle.task_code.specs.declared.graph.Graph.{Graph}
+use Rattle.early_task_code.specs.declared.graph.Graph.{Graph}
 use Rattle.early_cutter.specs.Cutting.{graph_of}
 use Rattle.cluster.specs.History.{Setup, steps_of}
 use Rattle.cluster.specs.World.{first_world, after_events, words_of, world_of, results_of, kept}

@@ -2,7 +2,7 @@ use Rattle.std.proofs.Common.{◌≡◌, suc, ◌+◌, ◌*◌, ◌≤◌, Some,
 use Rattle.std.specs.Option.{option_map}
 use Rattle.placement.specs.declared.event.Event.{Event}
 use Rattle.placement.specs.declared.event.Header.{Header}
-use Rattle.task_code.specs.declared.graph.Graph.{Graph}
+use Rattle.early_task_code.specs.declared.graph.Graph.{Graph}
 use Rattle.cluster.specs.World.{World, drained_for, most_events, lowest, offers, after_offer, event_of}
 use Rattle.cluster.specs.Standing.{Holds, NamesPorts}
 use Rattle.cluster.specs.Offering.{offered}

@@ -1,7 +1,7 @@
 use Rattle.std.proofs.Common.{◌≡◌, ◌+◌, ◌++◌, ◌∷◌, [], slice_get, slice_set, ap, ◌∙◌, sym, subst, refl, arith}
-use Rattle.task_code.specs.declared.graph.Graph.{Graph}
+use Rattle.early_task_code.specs.declared.graph.Graph.{Graph}
 use Rattle.placement.specs.declared.event.Header.{Header}
-use Rattle.task_code.specs.Progress.{Taken, Progress, progress_after}
+use Rattle.early_task_code.specs.Progress.{Taken, Progress, progress_after}
 use Rattle.cell_machine.specs.Shows.{Shows}
 use Rattle.cluster.specs.declared.cells.PortCell.{PortCell}
 use Rattle.cluster.specs.declared.past.Past.{Past}

@@ -1,4 +1,0 @@
-use Rattle.task_code.proofs.instructions.+pop_arguments.Given as goal
-
-abbrev pub decreases-pop_arguments : goal.decreases-pop_arguments
-decreases-pop_arguments l = l.count
