@@ -22,10 +22,6 @@ fn throwing(alloc: Global) -> Result<Expression, AllocError> {
     binary(alloc, BinOp::Div, Expression::Int(1), Expression::Int(0))
 }
 
-fn new_vector(alloc: Global, length: i32) -> Result<Expression, AllocError> {
-    Ok(Expression::NewVector(Boxed::new(alloc, Expression::Int(length))?))
-}
-
 fn list(alloc: Global, item: Statement) -> Result<Items<Statement>, AllocError> {
     let mut items = Items::new(alloc);
     items.push(item)?;
@@ -71,113 +67,6 @@ fn call(alloc: Global, argument: Expression) -> Result<Expression, AllocError> {
     Ok(Expression::Call(0, arguments))
 }
 
-#[test]
-fn operands_are_evaluated_from_left_to_right(rt: HostRuntime) -> Result<(), Fail> {
-    let alloc = rt.alloc();
-    let methods = methods(alloc)?;
-    let machine = machine(alloc, 0)?;
-    let zero = || Boxed::new(alloc, Expression::Int(0));
-    let nine = || Boxed::new(alloc, Expression::Int(9));
-    let thrown = || Boxed::new(alloc, throwing(alloc)?);
-    for (expression, turns, wanted) in [
-        (
-            binary(alloc, BinOp::Add, throwing(alloc)?, new_vector(alloc, -1)?)?,
-            5,
-            "Err(Halt(Threw(Arithmetic)))",
-        ),
-        (
-            binary(alloc, BinOp::Add, new_vector(alloc, -1)?, throwing(alloc)?)?,
-            5,
-            "Err(Halt(Threw(NegativeSize)))",
-        ),
-        (
-            binary(
-                alloc,
-                BinOp::AndAlso,
-                Expression::Bool(false),
-                throwing(alloc)?,
-            )?,
-            5,
-            "Ok((Bool(false), 5))",
-        ),
-        (
-            binary(
-                alloc,
-                BinOp::OrElse,
-                Expression::Bool(true),
-                throwing(alloc)?,
-            )?,
-            5,
-            "Ok((Bool(true), 5))",
-        ),
-        (
-            binary(
-                alloc,
-                BinOp::AndAlso,
-                Expression::Bool(true),
-                throwing(alloc)?,
-            )?,
-            5,
-            "Err(Halt(Threw(Arithmetic)))",
-        ),
-        (Expression::VectorElement(1, zero()?), 5, "Ok((Long(7), 5))"),
-        (
-            Expression::VectorElement(1, nine()?),
-            5,
-            "Err(Halt(Threw(Index)))",
-        ),
-        (
-            Expression::GatheredElement(nine()?, thrown()?),
-            5,
-            "Err(Halt(Threw(Index)))",
-        ),
-        (
-            Expression::GatheredElement(zero()?, thrown()?),
-            5,
-            "Err(Halt(Threw(Arithmetic)))",
-        ),
-        (Expression::VectorSize(1), 5, "Ok((Int(2), 5))"),
-        (Expression::CarriedKey, 5, "Ok((Long(9), 5))"),
-        (new_vector(alloc, 4097)?, 5, "Err(Halt(TooLong))"),
-        (call(alloc, Expression::Int(4))?, 1, "Ok((Int(4), 0))"),
-        (call(alloc, Expression::Int(4))?, 0, "Err(Halt(OutOfTurns))"),
-        (
-            call(alloc, throwing(alloc)?)?,
-            0,
-            "Err(Halt(Threw(Arithmetic)))",
-        ),
-        (
-            call(alloc, call(alloc, Expression::Int(4))?)?,
-            2,
-            "Ok((Int(4), 0))",
-        ),
-        (Expression::Merge(1), 1, "Ok((Int(1), 0))"),
-    ] {
-        let given = evaluate(alloc, methods.as_slice(), &expression, &machine, turns);
-        assert_eq!(rt; format!(in alloc; "{given:?}")?.as_str(), wanted);
-    }
-    Ok(())
-}
-
-/// `for (; v0 < 3; v0 = v0 + 1) body`
-fn counting(alloc: Global, body: Statement) -> Result<Statement, AllocError> {
-    let test = binary(
-        alloc,
-        BinOp::Lt,
-        Expression::Variable(0),
-        Expression::Int(3),
-    )?;
-    let next = binary(
-        alloc,
-        BinOp::Add,
-        Expression::Variable(0),
-        Expression::Int(1),
-    )?;
-    let update = list(alloc, Statement::Assign(0, Boxed::new(alloc, next)?))?;
-    let test = Some(Boxed::new(alloc, test)?);
-    Ok(Statement::Loop(Items::new(alloc), test, update, Boxed::new(alloc, body)?))
-}
-
 /// Calls a method of the counter, whose answer goes to the first variable.
 fn counted(alloc: Global, method: Method, argument: Option<i64>) -> Result<Statement, AllocError> {
     let mut args = Items::new(alloc);
@@ -201,55 +90,6 @@ fn broken_off(alloc: Global) -> Result<Statement, AllocError> {
     items.push(Statement::Evaluate(Boxed::new(alloc, throwing(alloc)?)?))?;
     items.push(Statement::Assign(0, Boxed::new(alloc, Expression::Int(7))?))?;
     Ok(Statement::Block(items))
-}
-
-#[test]
-fn statements_complete_and_leave_a_machine(rt: HostRuntime) -> Result<(), Fail> {
-    let alloc = rt.alloc();
-    let methods = methods(alloc)?;
-    for (statement, turns, wanted) in [
-        (
-            counting(alloc, Statement::Block(Items::new(alloc)))?,
-            3,
-            "Normal, Int(3), 0 left",
-        ),
-        (
-            counting(alloc, Statement::Block(Items::new(alloc)))?,
-            2,
-            "Halts(OutOfTurns), Int(2), 0 left",
-        ),
-        (
-            counting(alloc, Statement::Continue)?,
-            4,
-            "Normal, Int(3), 1 left",
-        ),
-        (
-            counting(alloc, Statement::Break)?,
-            4,
-            "Normal, Int(0), 3 left",
-        ),
-        (
-            counting(alloc, Statement::Return(None))?,
-            4,
-            "Returns(Unit), Int(0), 3 left",
-        ),
-        (
-            broken_off(alloc)?,
-            4,
-            "Halts(Threw(Arithmetic)), Int(6), 4 left",
-        ),
-    ] {
-        let mut machine = machine(alloc, turns)?;
-        let completion = run(alloc, methods.as_slice(), &statement, &mut machine)?;
-        let left = machine.turns;
-        let value = machine.variables.first();
-        assert!(rt; value.is_some());
-        if let Some(value) = value {
-            let given = format!(in alloc; "{completion:?}, {value:?}, {left} left")?;
-            assert_eq!(rt; given.as_str(), wanted);
-        }
-    }
-    Ok(())
 }
 
 #[test]
