@@ -192,12 +192,17 @@ init_of scope for_init.Nothing c = read [] c
 init_of scope (for_init.Local l) c = list_of (local scope l ∷ []) c
 init_of scope (for_init.Simples all) c = list_of (map (simple_of scope) all) c
 
+-- the update of a `for`: the empty statement where none is written, so that a loop without an update is a `while`
+abbrev pub update_of : Scope → List Simple → Cursor → Read (List Statement)
+update_of scope [] c = read (nothing ∷ []) c
+update_of scope (first ∷ others) c = list_of (map (simple_of scope) (first ∷ others)) c
+
 -- In the text the update stands before the body.
 abbrev pub for_of : Scope → ForHeader → Stating → Cursor → Read Statement
 for_of scope h body c =
     let start = init_of scope h.init c in
     let test = condition scope h.test start.cursor in
-    let update = list_of (map (simple_of scope) h.update) test.cursor in
+    let update = update_of scope h.update test.cursor in
     let inner = body update.cursor in
     read (statement.Loop start.it test.it update.it inner.it) inner.cursor
 

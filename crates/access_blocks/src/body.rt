@@ -81,7 +81,8 @@ pub enum Statement {
     Opened(Boxed<Statement>),
     Block(Items<Statement>),
     If(Boxed<Expression>, Boxed<Statement>, Option<Boxed<Statement>>),
-    /// A `for`, or a `while`, which has no start and no update: its start, its condition, its update and its body.
+    /// A `for` or a `while`: its start, its condition, its update and its body. A `while` has no start and no update; each
+    /// `for` has an update, of the empty statement where none is written.
     Loop(Items<Statement>, Option<Boxed<Expression>>, Items<Statement>, Boxed<Statement>),
     Break,
     Continue,

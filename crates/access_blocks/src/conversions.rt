@@ -10,8 +10,10 @@ use sdg_base::{BinOp, Num, UnOp, Val};
 use sqlite_items::Boxed;
 use std::alloc::{AllocError, Global};
 
+/// The type `int`.
 pub const INT: ExprType = ExprType::Value(ValueType::Int);
 
+/// The type `long`.
 pub const LONG: ExprType = ExprType::Value(ValueType::Long);
 
 pub fn is_long(found: ExprType) -> bool

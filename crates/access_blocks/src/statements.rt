@@ -11,7 +11,7 @@ use crate::expressions::expression;
 use crate::scope::Scope;
 use crate::simples::{local, simple, simples};
 use crate::values::value_to;
-use java_tree::{BlockItem, Expr, ExprType, ForHeader, ForInit, Local, Stmt, Value};
+use java_tree::{BlockItem, Expr, ExprType, ForHeader, ForInit, Local, Simple, Stmt, Value};
 use sqlite_items::{Boxed, Items};
 use std::alloc::{AllocError, Global};
 
@@ -71,6 +71,24 @@ fn init(
         ForInit::Local(l) => one_local(alloc, scope, cursor, l),
         ForInit::Simples(all) => simples(alloc, scope, cursor, all.as_slice()),
     }
+}
+
+/// The update of a `for`: the empty statement where none is written, so that a loop without an update is a `while`.
+fn updates(
+    alloc: Global,
+    scope: &Scope,
+    cursor: &mut Cursor<'_>,
+    all: &[Simple],
+) -> Result<Items<Statement>, AllocError>
+    ensures it { IfOk result (λ it. it ≡ (spec.update_of scope.now all.now cursor.old).it) }
+    ensures cursor { OnOk result (cursor.new ≡ (spec.update_of scope.now all.now cursor.old).cursor) }
+{
+    if all.is_empty() {
+        let mut made = Items::new(alloc);
+        made.push(Statement::Block(Items::new(alloc)))?;
+        return Ok(made);
+    }
+    simples(alloc, scope, cursor, all)
 }
 
 fn returned(
@@ -157,7 +175,7 @@ fn for_loop(
 {
     let start = init(alloc, scope, cursor, &h.init)?;
     let holds = condition(alloc, scope, cursor, &h.test)?;
-    let update = simples(alloc, scope, cursor, h.update.as_slice())?;
+    let update = updates(alloc, scope, cursor, h.update.as_slice())?;
     let body = boxed(alloc, scope, cursor, wanted, body)?;
     Ok(Statement::Loop(start, holds, update, body))
 }
