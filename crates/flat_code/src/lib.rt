@@ -1,0 +1,10 @@
+//! The flat code of a class, and its stateful dataflow graph: what they are made of, and what the
+//! instructions, items and tasks mean.
+#![tactic(auto)]
+
+mod graph;
+
+pub use graph::{
+    FieldKind, Flat, Graph, GraphField, GraphMethod, Instr, MethodKind, OperandType, Task,
+    TaskKind, VarType, VariableType,
+};
