@@ -38,10 +38,12 @@ class Token:
 
 
 class Expression:
-    """`type`: its type. `site`: where an access goes, or nothing where it is no access."""
+    """`type`: its type. `site`: where an access goes, or nothing where it is no access. `text`: an argument as it
+    is written."""
 
     type = ""
     site = None
+    text = ""
 
 
 @dataclass
@@ -119,8 +121,10 @@ class Parts(Expression):
 
 
 class Statement:
-    """`accesses` and `touched`: its accesses, and the names that it declares or assigns. `mark`: the site before it."""
+    """`accesses` and `touched`: its accesses, and the names that it declares or assigns. `mark`: the site before it.
+    `begins`: the place of its first token, where it is no part of the header of a `for`."""
 
+    begins = 0
     accesses = ()
     touched = frozenset()
     mark = None
@@ -216,6 +220,7 @@ class Method:
     parameters: list
     body: list
     is_merge: bool
+    start: int
 
     def kind(self):
         if self.is_merge:
@@ -331,7 +336,8 @@ class Reader:
         self.expect("(")
         collections = []
         parameters = self.listed(lambda: self.parameter(collections), ")")
-        read.methods.append(Method(modifiers, of_type, name, parameters, self.block().statements, bool(collections)))
+        body = self.block().statements
+        read.methods.append(Method(modifiers, of_type, name, parameters, body, bool(collections), start))
 
     def parameter(self, collections):
         if self.takes("@", "Collection"):
@@ -345,11 +351,20 @@ class Reader:
         self.expect("{")
         statements = []
         while not self.takes("}"):
-            statements.append(self.gather() if self.peek() == "@" and self.peek(1) == "Partial" else self.member())
+            statements.append(self.placed(self.member))
         return Block(statements)
 
+    def placed(self, read):
+        """The statement that is read next, with its place."""
+        begins = self.tokens[self.at].start
+        made = read()
+        made.begins = begins
+        return made
+
     def member(self):
-        """A statement of a block, which may be a local."""
+        """A statement of a block, which may be a local, or an access of all instances with its merge."""
+        if self.peek() == "@" and self.peek(1) == "Partial":
+            return self.gather()
         if not self.is_local():
             return self.statement()
         made = self.local()
@@ -362,7 +377,7 @@ class Reader:
         self.expect("=", "@", "Global")
         call = self.expression()
         self.expect(";")
-        return Gather(call, self.member())
+        return Gather(call, self.placed(self.member))
 
     def is_local(self):
         two = self.tokens[self.at : self.at + 2]
@@ -373,7 +388,11 @@ class Reader:
         return Local(of_type, name, self.expression() if self.takes("=") else None)
 
     def argument(self):
-        return Parts(self.name()) if self.takes("@", "Global") else self.expression()
+        first = self.tokens[self.at]
+        made = Parts(self.name()) if self.takes("@", "Global") else self.expression()
+        last = self.tokens[self.at - 1]
+        made.text = self.text[first.start : last.start + len(last.text)]
+        return made
 
     def statement(self):
         if self.peek() == "{":
@@ -382,10 +401,10 @@ class Reader:
             return Block([])
         if self.takes("if", "("):
             test = self.closed()
-            first = self.statement()
-            return If(test, first, self.statement() if self.takes("else") else None)
+            first = self.placed(self.statement)
+            return If(test, first, self.placed(self.statement) if self.takes("else") else None)
         if self.takes("while", "("):
-            return Loop([], self.closed(), [], self.statement())
+            return Loop([], self.closed(), [], self.placed(self.statement))
         if self.takes("for", "("):
             return self.loop()
         if self.peek() in ("break", "continue"):
@@ -411,7 +430,7 @@ class Reader:
         test = None if self.peek() == ";" else self.expression()
         self.expect(";")
         update = self.listed(self.simple, ")")
-        return Loop(start, test, update, self.statement())
+        return Loop(start, test, update, self.placed(self.statement))
 
     def simple(self):
         if self.peek() in ("++", "--"):
