@@ -1,0 +1,6 @@
+mod Lists
+mod Noting
+mod Rising
+mod Walking
+mod Methods
+mod Measure
