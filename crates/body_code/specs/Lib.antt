@@ -1,0 +1,7 @@
+pub mod Typing
+pub mod Completing
+pub mod Early
+pub mod Codes
+pub mod ExpressionCode
+pub mod StatementCode
+pub mod ClassCode
