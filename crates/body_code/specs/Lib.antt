@@ -5,3 +5,4 @@ pub mod Codes
 pub mod ExpressionCode
 pub mod StatementCode
 pub mod ClassCode
+pub mod Checking
