@@ -1,8 +1,11 @@
 pub mod Endings
 pub mod Failing
 pub mod Faults
+pub mod Keeping
 pub mod Named
 pub mod Readings
 pub mod Reads
+pub mod Stable
+pub mod Stored
 pub mod Wholes
 pub mod Writes

@@ -3,8 +3,11 @@
 #![tactic(auto)]
 
 mod asked;
+mod change;
 mod failing;
 mod files;
+mod keep;
+mod keep_call;
 mod memory_files;
 mod memory_sink;
 mod read_call;
@@ -13,8 +16,11 @@ mod sure;
 mod whole;
 
 pub use asked::{Asked, FilesError, read_files};
+pub use change::{Change, Changes};
 pub use failing::Fails;
 pub use files::{FileList, Files};
+pub use keep::Keep;
+pub use keep_call::{KeepCall, KeepCalls};
 pub use memory_files::MemoryFiles;
 pub use memory_sink::MemorySink;
 pub use read_call::{ReadCall, note_read};
