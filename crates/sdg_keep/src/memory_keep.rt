@@ -82,7 +82,13 @@ impl MemoryKeep {
     }
 
     /// Notes a call, which fails or not, and makes its change where it takes effect.
-    fn make(&mut self, call: KeepCall, change: Change, took: bool, fails: bool) -> Result<(), KeepError>
+    fn make(
+        &mut self,
+        call: KeepCall,
+        change: Change,
+        took: bool,
+        fails: bool,
+    ) -> Result<(), KeepError>
         ensures exactly { FailsExactly fails result }
         ensures noted { NotesCall self.old.calls self.new.calls call result }
         ensures made { Makes self.old.changes self.new.changes took change result }
@@ -105,4 +111,46 @@ impl MemoryKeep {
             Ok(()) => Ok(()),
         }
     }
+}
+
+/// The call of `put`.
+fn put_call(
+    alloc: Global,
+    store: u8,
+    name: &Name,
+    bytes: &Bytes,
+    done: bool,
+) -> Result<KeepCall, KeepError>
+    ensures same { IfOk result (λ made. made ≡ call.Put store name.now bytes.now done) }
+    ensures none { IfErr result (λ e. e ≡ keep.Memory) }
+{
+    let name = copy_bytes(alloc, name)?;
+    let bytes = copy_bytes(alloc, bytes)?;
+    Ok(KeepCall::Put {
+        store,
+        name,
+        bytes,
+        done,
+    })
+}
+
+/// The change of a put, with or without effect.
+pub(crate) fn put_change(
+    alloc: Global,
+    store: u8,
+    name: &Name,
+    bytes: &Bytes,
+    took: bool,
+) -> Result<Change, KeepError>
+    ensures same { IfOk result (λ made. made ≡ change.Put store name.now bytes.now took) }
+    ensures none { IfErr result (λ e. e ≡ keep.Memory) }
+{
+    let name = copy_bytes(alloc, name)?;
+    let bytes = copy_bytes(alloc, bytes)?;
+    Ok(Change::Put {
+        store,
+        name,
+        bytes,
+        took,
+    })
 }
