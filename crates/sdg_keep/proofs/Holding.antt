@@ -1,5 +1,5 @@
 -- laws on what a keep in memory holds after its changes
-use Rattle.std.proofs.Common.{◌≡◌, ℕ, Bool, true, false, ◌==◌, List, [], ◌∷◌, ◌++◌, Option, Some, None, Result, Ok, Err, is_some, is_none, is_ok, drop, refl, sym, ap, subst, ◌∙◌, if◌then◌else◌}
+use Rattle.std.proofs.Common.{◌≡◌, ℕ, Bool, true, false, ◌==◌, List, [], ◌∷◌, ◌++◌, Option, Some, None, Result, Ok, Err, is_some, is_none, is_ok, IfOk, refl, sym, ap, subst, ◌∙◌, if◌then◌else◌}
 use Rattle.sdg_base.specs.declared.item.Line.{Line}
 use Rattle.sdg_base.specs.declared.item.Note.{Note}
 use Rattle.sdg_base.specs.declared.store.KeepError.{KeepError}
@@ -87,16 +87,7 @@ append-model before now (Some true) line note (Err Failed) fails made = With (re
 append-model before now (Some false) line note (Err Failed) fails made = Without (stored-same before now made)
 append-model before now fail line note (Err Memory) fails made = stored-same before now made
 
--- without memory nothing changed
-pub made-none : {T : Type 0} → (before now : List Change) (took : Bool) (last : Change) (result : Result T KeepError) → Makes before now took last result → result ≡ Err Memory → Same (stored before) (stored now)
-made-none before now took last (Ok value) made none = cc
-made-none before now took last (Err Failed) made none = cc
-made-none before now took last (Err Memory) made none = stored-same before now made
-
--- a call is noted with whether it was done
-pub noted-done : (before now : List KeepCall) (call : Bool → KeepCall) (fail : Option Bool) (result : Result (Unit {0}) KeepError) → FailsExactly (is_some fail) result → NotesCall before now (call (is_none fail)) result → NotesTold (Some before) (Some now) (call (is_ok result)) result
-noted-done before now call None (Ok done) fails noted = ap Some noted
-noted-done before now call (Some effect) (Ok done) fails noted = cc
-noted-done before now call None (Err Failed) fails noted = cc
-noted-done before now call (Some effect) (Err Failed) fails noted = ap Some noted
-noted-done before now call fail (Err Memory) fails noted = ap Some noted
+-- a read of a name gives what its store has of it, and changes nothing
+pub get-model : (changes : List Change) (store : ℕ) (name : List ℕ) (read : Option (List ℕ)) (result : Result (Option (List ℕ)) KeepError) → read ≡ read_after None changes store name → IfOk result (λ copy. copy ≡ read) → GetsName store name (stored changes) (stored changes) result
+get-model changes store name read (Ok value) gives same = (stored-same changes changes refl, same ∙ gives ∙ sym (read_after-kept absent changes store name))
+get-model changes store name read (Err e) gives same = stored-same changes changes refl

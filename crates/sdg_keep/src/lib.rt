@@ -14,6 +14,7 @@ mod memory_sink;
 mod read_call;
 mod sink;
 mod sure;
+mod sure_keep;
 mod whole;
 
 pub use asked::{Asked, FilesError, read_files};
@@ -28,6 +29,7 @@ pub use memory_sink::MemorySink;
 pub use read_call::{ReadCall, note_read};
 pub use sink::Sink;
 pub use sure::{SureFiles, SureSink};
+pub use sure_keep::SureKeep;
 pub use whole::{ReadError, read_whole, write_whole};
 
 #[cfg(test)]

@@ -1,0 +1,5 @@
+use Rattle.sdg_keep.proofs.Holding.{sync-model}
+use Rattle.sdg_keep.proofs.memory_keep.MemoryKeepKeep.sync.Goals as goal
+
+pub returns-clause-model : goal.returns-clause-model
+returns-clause-model c = sync-model _ _ c.next_fail-fail.result _ _ (rw c.is_some.ensures at c.make.ensures.exactly) (rw c.unwrap_or.ensures at c.make.ensures.made)
