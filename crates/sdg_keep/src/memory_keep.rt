@@ -254,7 +254,12 @@ pub(crate) fn copy_read(alloc: Global, read: Option<&Bytes>) -> Result<Option<By
 }
 
 /// The notes of a line after these changes, without the first `from`.
-pub(crate) fn held_notes(alloc: Global, changes: &Changes, line: Line, from: u64) -> Result<Notes, KeepError>
+pub(crate) fn held_notes(
+    alloc: Global,
+    changes: &Changes,
+    line: Line,
+    from: u64,
+) -> Result<Notes, KeepError>
     ensures same { IfOk result (λ notes. notes ≡ drop from (notes_after [] changes.now line)) }
     ensures none { IfErr result (λ e. e ≡ keep.Memory) }
 {
@@ -265,7 +270,13 @@ pub(crate) fn held_notes(alloc: Global, changes: &Changes, line: Line, from: u64
 }
 
 /// The call of `get`, which gives these bytes where it does not fail.
-fn get_call(alloc: Global, store: u8, name: &Name, read: &Option<Bytes>, fails: bool) -> Result<KeepCall, KeepError>
+fn get_call(
+    alloc: Global,
+    store: u8,
+    name: &Name,
+    read: &Option<Bytes>,
+    fails: bool,
+) -> Result<KeepCall, KeepError>
     ensures same { IfOk result (λ made. made ≡ call.Get store name.now (if fails then None else Some read.now)) }
     ensures none { IfErr result (λ e. e ≡ keep.Memory) }
 {
@@ -286,7 +297,13 @@ fn get_call(alloc: Global, store: u8, name: &Name, read: &Option<Bytes>, fails: 
 }
 
 /// The call of `notes`, which gives these notes where it does not fail.
-fn notes_call(alloc: Global, line: Line, from: u64, notes: &Notes, fails: bool) -> Result<KeepCall, KeepError>
+fn notes_call(
+    alloc: Global,
+    line: Line,
+    from: u64,
+    notes: &Notes,
+    fails: bool,
+) -> Result<KeepCall, KeepError>
     ensures same { IfOk result (λ made. made ≡ call.Notes line from (if fails then None else Some notes.now)) }
     ensures none { IfErr result (λ e. e ≡ keep.Memory) }
 {

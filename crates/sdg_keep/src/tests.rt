@@ -1,7 +1,7 @@
 ghost use Rattle.std.specs.Prelude.{◌≤◌, IfOk};
 
 use super::*;
-use sdg_base::{Bytes, KeepError, Name};
+use sdg_base::{Bytes, KeepError, Line, Name, Note, Port};
 use std::alloc::{AllocError, Global};
 use std::process::Abort;
 use std::test::*;
@@ -222,5 +222,131 @@ fn files_are_read_in_turn(rt: HostRuntime) -> Result<(), Fail> {
         };
         assert_eq!(rt; told.as_str(), want);
     }
+    Ok(())
+}
+
+/// Whether a call failed. Want of memory is no answer of a test.
+fn failed<T: Drop>(answer: Result<T, KeepError>) -> Result<bool, KeepError> {
+    match answer {
+        Ok(_) => Ok(false),
+        Err(KeepError::Failed) => Ok(true),
+        Err(KeepError::Memory) => Err(KeepError::Memory),
+    }
+}
+
+/// Which of eight calls in turn failed: a name on store 2 is put and cleared, another on store 1 is
+/// put, synced and put again, a line gets a note, and name and line are read.
+fn eight_calls<K: Keep>(
+    alloc: Global,
+    keep: &mut K,
+    first: &Name,
+    other: &Name,
+    piece: &[Bytes; 3],
+) -> Result<[bool; 8], KeepError> {
+    let note = Note::Commit {
+        from: Port::Front,
+        seq: 1,
+    };
+    Ok([
+        failed(keep.put(alloc, 2, other, &piece[0]))?,
+        failed(keep.clear(alloc, 2))?,
+        failed(keep.put(alloc, 1, first, &piece[1]))?,
+        failed(keep.sync(1))?,
+        failed(keep.put(alloc, 1, first, &piece[2]))?,
+        failed(keep.append(alloc, Line::Commit, note))?,
+        failed(keep.get(alloc, 1, first))?,
+        failed(keep.notes(alloc, Line::Commit, 0))?,
+    ])
+}
+
+/// The one byte of a name, `None` where there is no such name.
+fn byte_of<K: Keep>(
+    alloc: Global,
+    keep: &mut K,
+    store: u8,
+    name: &Name,
+) -> Result<Option<u8>, KeepError> {
+    match keep.get(alloc, store, name)? {
+        Some(bytes) => Ok(bytes.as_slice().first().copied()),
+        None => Ok(None),
+    }
+}
+
+/// Whether a noted call was done.
+fn done(call: &KeepCall) -> bool {
+    match call {
+        KeepCall::Clear { done, .. } => *done,
+        KeepCall::Put { done, .. } => *done,
+        KeepCall::Sync { done, .. } => *done,
+        KeepCall::Append { done, .. } => *done,
+        KeepCall::Get { gave, .. } => gave.is_some(),
+        KeepCall::Notes { gave, .. } => gave.is_some(),
+    }
+}
+
+#[test]
+fn each_keep_call_fails_in_turn(rt: HostRuntime) -> Result<(), Fail> {
+    let alloc = rt.alloc();
+    let first = Name::from_slice(alloc, b"a")?;
+    let other = Name::from_slice(alloc, b"b")?;
+    let piece = [
+        Bytes::from_slice(alloc, &[9])?,
+        Bytes::from_slice(alloc, &[1])?,
+        Bytes::from_slice(alloc, &[2])?,
+    ];
+    // The number of the call that fails, with effect or not; the byte of `b` on store 2, that of `a`
+    // on store 1, how many notes the line has, and how many changes were made.
+    for (number, effect, b, a, notes, changes) in [
+        (0, false, None, Some(2), 1, 6),
+        (1, false, None, Some(2), 1, 6),
+        (1, true, None, Some(2), 1, 6),
+        (2, false, Some(9), Some(2), 1, 5),
+        (2, true, None, Some(2), 1, 6),
+        (3, false, None, Some(2), 1, 6),
+        (3, true, None, Some(2), 1, 6),
+        (4, false, None, Some(2), 1, 5),
+        (4, true, None, Some(2), 1, 6),
+        (5, false, None, Some(1), 1, 6),
+        (5, true, None, Some(2), 1, 6),
+        (6, false, None, Some(2), 0, 5),
+        (6, true, None, Some(2), 1, 6),
+        (7, false, None, Some(2), 1, 6),
+        (7, true, None, Some(2), 1, 6),
+        (8, false, None, Some(2), 1, 6),
+        (8, true, None, Some(2), 1, 6),
+    ] {
+        let mut keep = MemoryKeep::new(alloc, fails_at(alloc, number, effect)?);
+        let answers = eight_calls(alloc, &mut keep, &first, &other, &piece)?;
+        let mut call = 0;
+        for answer in answers {
+            call += 1;
+            assert_eq!(rt; answer, call == number, "call {call}, {number} fails");
+        }
+        assert_eq!(rt; keep.faults, if number == 0 { 0 } else { 1 });
+        assert_eq!(rt; keep.changes.len(), changes, "call {number}");
+        assert_eq!(rt; keep.calls.len(), 8);
+        let mut call = 0;
+        for noted in keep.calls.as_slice() {
+            call += 1;
+            assert_eq!(rt; done(noted), call != number, "call {call}, {number} fails");
+        }
+        assert_eq!(rt; byte_of(alloc, &mut keep, 2, &other)?, b, "call {number}");
+        assert_eq!(rt; byte_of(alloc, &mut keep, 1, &first)?, a, "call {number}");
+        assert_eq!(rt;
+            keep.notes(alloc, Line::Commit, 0)?.len(),
+            notes,
+            "call {number}"
+        );
+        assert_eq!(rt; keep.notes(alloc, Line::Commit, 1)?.len(), 0);
+        assert_eq!(rt; keep.notes(alloc, Line::Grow, 0)?.len(), 0);
+    }
+    let mut sure = SureKeep::new(alloc);
+    let answers = eight_calls(alloc, &mut sure, &first, &other, &piece)?;
+    for answer in answers {
+        assert!(rt; !answer);
+    }
+    assert_eq!(rt; byte_of(alloc, &mut sure, 2, &other)?, None);
+    assert_eq!(rt; byte_of(alloc, &mut sure, 1, &first)?, Some(2));
+    assert_eq!(rt; sure.notes(alloc, Line::Commit, 0)?.len(), 1);
     Ok(())
 }
