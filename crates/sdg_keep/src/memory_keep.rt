@@ -198,8 +198,8 @@ impl Keep for MemoryKeep {
             note,
             done: fail.is_none(),
         };
-        let change = Change::Append { line, note };
-        self.make(call, change, fail.unwrap_or(true), fail.is_some())
+        let added = Change::Append { line, note };
+        self.make(call, added, fail.unwrap_or(true), fail.is_some())
     }
 
     fn get(&mut self, alloc: Global, store: u8, name: &Name) -> Result<Option<Bytes>, KeepError>
