@@ -31,6 +31,7 @@ fn note_in(table: &mut Vec<Items<u32>>, row: u32, number: u32) -> Result<(), All
     Ok(())
 }
 
+/// Adds a number to a row, where there is one.
 fn note(table: &mut Vec<Items<u32>>, row: Option<u32>, number: u32) -> Result<(), AllocError>
     ensures { OnOk result (AreNoted (option_to_list row) number table.old.items table.new.items) }
 {
@@ -62,6 +63,17 @@ pub fn befores(alloc: Global, code: &[Instr]) -> Result<Vec<Items<u32>>, AllocEr
     Ok(table)
 }
 
+/// A number above that of the variable that is read.
+fn read_end(instr: &Instr) -> usize
+    ensures above { (v : ℕ) → IsIn v (reads instr.now) → v < result }
+    ensures few { result ≤ 2 ^ 32 }
+{
+    match read(instr) {
+        Some(variable) => variable as usize + 1,
+        None => 0,
+    }
+}
+
 /// A number above those of all variables that are read.
 fn variables_end(code: &[Instr]) -> usize
     ensures above { AreReadBelow code.now (length code.now) result }
@@ -72,17 +84,6 @@ fn variables_end(code: &[Instr]) -> usize
         end = end.max(read_end(instr));
     }
     end
-}
-
-/// A number above that of the variable that is read.
-fn read_end(instr: &Instr) -> usize
-    ensures above { (v : ℕ) → IsIn v (reads instr.now) → v < result }
-    ensures few { result ≤ 2 ^ 32 }
-{
-    match read(instr) {
-        Some(variable) => variable as usize + 1,
-        None => 0,
-    }
 }
 
 /// By variable, the instructions that read it.
