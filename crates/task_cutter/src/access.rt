@@ -42,6 +42,7 @@ pub fn accessed(instr: Option<&Instr>) -> Option<&Name>
     }
 }
 
+/// Whether an instruction is a part.
 pub fn is_part(instr: Option<&Instr>) -> bool
     ensures { result ≡ is_part (option_copied instr.entry) }
 {
@@ -100,6 +101,7 @@ pub fn cut_kind(fields: &[GraphField], field: Option<&Name>, visit: bool) -> Tas
     }
 }
 
+/// A copy of a name, where there is one.
 pub fn copied(alloc: Global, name: Option<&Name>) -> Result<Option<Name>, AllocError>
     ensures { IfOk result (λ copy. copy ≡ option_copied name.entry) }
 {
