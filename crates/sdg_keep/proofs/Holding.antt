@@ -1,15 +1,14 @@
 -- laws on what a keep in memory holds after its changes
-use Rattle.std.proofs.Common.{◌≡◌, ℕ, Bool, true, false, ◌==◌, List, [], ◌∷◌, ◌++◌, Option, Some, None, Result, Ok, Err, is_some, is_none, is_ok, IfOk, refl, sym, ap, subst, ◌∙◌, if◌then◌else◌}
+use Rattle.std.proofs.Common.{◌≡◌, ℕ, Bool, true, false, ◌==◌, List, [], ◌∷◌, ◌++◌, Option, Some, None, Result, Ok, Err, is_some, IfOk, refl, sym, ap, ◌∙◌, if◌then◌else◌}
 use Rattle.sdg_base.specs.declared.item.Line.{Line}
 use Rattle.sdg_base.specs.declared.item.Note.{Note}
 use Rattle.sdg_base.specs.declared.store.KeepError.{KeepError}
 use Rattle.sdg_base.specs.declared.store.KeepError.TheVariants.{Failed, Memory}
 use Rattle.sdg_keep.specs.declared.change.Change.{Change}
 use Rattle.sdg_keep.specs.declared.change.Change.TheVariants as change
-use Rattle.sdg_keep.specs.declared.keep_call.KeepCall.{KeepCall}
-use Rattle.sdg_keep.specs.Failing.{FailsExactly, NotesCall}
-use Rattle.sdg_keep.specs.Stable.{Kept, absent, put_to, put_in_vain, synced_now, same_name, same_line}
-use Rattle.sdg_keep.specs.Keeping.{Same, Puts, PutsInVain, FailsPut, New, Old, MayChange, Left, Changed, Syncs, FailsSync, AddsNote, FailsAppend, Without, With, Clears, PutsName, SyncsStore, AppendsNote, GetsName, GetsNotes, NotesTold, given}
+use Rattle.sdg_keep.specs.Failing.{FailsExactly}
+use Rattle.sdg_keep.specs.Stable.{Kept, absent, put_to, put_in_vain, synced_now, same_name}
+use Rattle.sdg_keep.specs.Keeping.{Same, New, Old, Left, Changed, Without, With, Clears, PutsName, SyncsStore, AppendsNote, GetsName}
 use Rattle.sdg_keep.specs.Stored.{kept_by, kept_after, read_by, read_after, notes_by, notes_after, stored, takes_effect, Makes}
 
 -- one more change at the end

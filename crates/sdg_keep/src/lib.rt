@@ -1,5 +1,6 @@
-//! What a program asks of the outside: files to read and a place to write to, each with a count of
-//! its faults, the forms of them that stand in memory, and the loops that read and write whole.
+//! What a program asks of the outside: files to read, a place to write to and stable storage, each
+//! with a count of its faults, the forms of them that stand in memory, and the loops that read and
+//! write whole.
 #![tactic(auto)]
 
 mod asked;

@@ -234,6 +234,15 @@ fn failed<T: Drop>(answer: Result<T, KeepError>) -> Result<bool, KeepError> {
     }
 }
 
+/// Three texts of one byte.
+fn pieces(alloc: Global) -> Result<[Bytes; 3], AllocError> {
+    Ok([
+        Bytes::from_slice(alloc, &[9])?,
+        Bytes::from_slice(alloc, &[1])?,
+        Bytes::from_slice(alloc, &[2])?,
+    ])
+}
+
 /// Which of eight calls in turn failed: a name on store 2 is put and cleared, another on store 1 is
 /// put, synced and put again, a line gets a note, and name and line are read.
 fn eight_calls<K: Keep>(
@@ -287,13 +296,11 @@ fn done(call: &KeepCall) -> bool {
 #[test]
 fn each_keep_call_fails_in_turn(rt: HostRuntime) -> Result<(), Fail> {
     let alloc = rt.alloc();
-    let first = Name::from_slice(alloc, b"a")?;
-    let other = Name::from_slice(alloc, b"b")?;
-    let piece = [
-        Bytes::from_slice(alloc, &[9])?,
-        Bytes::from_slice(alloc, &[1])?,
-        Bytes::from_slice(alloc, &[2])?,
-    ];
+    let (first, other) = (
+        Name::from_slice(alloc, b"a")?,
+        Name::from_slice(alloc, b"b")?,
+    );
+    let piece = pieces(alloc)?;
     // The number of the call that fails, with effect or not; the byte of `b` on store 2, that of `a`
     // on store 1, how many notes the line has, and how many changes were made.
     for (number, effect, b, a, notes, changes) in [
@@ -340,6 +347,17 @@ fn each_keep_call_fails_in_turn(rt: HostRuntime) -> Result<(), Fail> {
         assert_eq!(rt; keep.notes(alloc, Line::Commit, 1)?.len(), 0);
         assert_eq!(rt; keep.notes(alloc, Line::Grow, 0)?.len(), 0);
     }
+    Ok(())
+}
+
+#[test]
+fn no_call_of_a_sure_keep_fails(rt: HostRuntime) -> Result<(), Fail> {
+    let alloc = rt.alloc();
+    let (first, other) = (
+        Name::from_slice(alloc, b"a")?,
+        Name::from_slice(alloc, b"b")?,
+    );
+    let piece = pieces(alloc)?;
     let mut sure = SureKeep::new(alloc);
     let answers = eight_calls(alloc, &mut sure, &first, &other, &piece)?;
     for answer in answers {
