@@ -1,2 +1,4 @@
 pub mod Values
 pub mod States
+pub mod Lists
+pub mod Stacks
