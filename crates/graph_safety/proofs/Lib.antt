@@ -2,3 +2,5 @@ pub mod Values
 pub mod States
 pub mod Lists
 pub mod Stacks
+pub mod Frames
+pub mod Steps
