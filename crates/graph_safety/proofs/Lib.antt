@@ -4,3 +4,4 @@ pub mod Lists
 pub mod Stacks
 pub mod Frames
 pub mod Steps
+pub mod Instructions

@@ -112,8 +112,13 @@ not_unary un.Not t = not_boolean t
 
 -- ---- going on
 
+abbrev pub Has : ValueType → Option Val → Type 0
+Has t None = Unit {0}
+Has t (Some v) = type_of v ≡ t
+
+
 module _ (graph : Graph) (m : GraphMethod) (field : Option (List ℕ)) (gathered : List Val) where
-  goes_on : (i : Instr) (at : ℕ) (stack variables next : List Val) (turns : ℕ) (after : Stack)
+  pub goes_on : (i : Instr) (at : ℕ) (stack variables next : List Val) (turns : ℕ) (after : Stack)
       → IsIn (suc at) (next_in_task at i) → ((v : ℕ) → writes i ≡ Some v → ⊥) → (is_turn i ≡ true → ⊥) → map type_of next ≡ after
       → StepFits graph m field gathered i (frame at stack variables turns) after (machine.goes next (frame at stack variables turns))
   goes_on i at stack variables next turns after is_next none no_turn typed = record {
@@ -126,7 +131,7 @@ module _ (graph : Graph) (m : GraphMethod) (field : Option (List ℕ)) (gathered
     spent = λ e. absurd (no_turn e);
   }
 
-  jumps : (i : Instr) (at to : ℕ) (stack variables next : List Val) (turns : ℕ) (after : Stack)
+  pub jumps : (i : Instr) (at to : ℕ) (stack variables next : List Val) (turns : ℕ) (after : Stack)
       → IsIn to (next_in_task at i) → ((v : ℕ) → writes i ≡ Some v → ⊥) → (is_turn i ≡ true → ⊥) → map type_of next ≡ after
       → StepFits graph m field gathered i (frame at stack variables turns) after (machine.jumped to next (frame at stack variables turns))
   jumps i at to stack variables next turns after is_next none no_turn typed = record {
@@ -140,7 +145,7 @@ module _ (graph : Graph) (m : GraphMethod) (field : Option (List ℕ)) (gathered
   }
 
   -- a value pushed on others
-  pushes : (t : ValueType) (o : Option Val) (i : Instr) (at : ℕ) (stack variables next : List Val) (turns : ℕ) (after : Stack)
+  pub pushes : (t : ValueType) (o : Option Val) (i : Instr) (at : ℕ) (stack variables next : List Val) (turns : ℕ) (after : Stack)
       → IsIn (suc at) (next_in_task at i) → ((v : ℕ) → writes i ≡ Some v → ⊥) → (is_turn i ≡ true → ⊥)
       → ValueHas (Some t) o → t ∷ map type_of next ≡ after
       → StepFits graph m field gathered i (frame at stack variables turns) after (machine.pushed o next (frame at stack variables turns))
@@ -148,7 +153,7 @@ module _ (graph : Graph) (m : GraphMethod) (field : Option (List ℕ)) (gathered
   pushes t (Some v) i at stack variables next turns after is_next none no_turn has typed =
       goes_on i at stack variables (v ∷ next) turns after is_next none no_turn (ap (λ u. u ∷ map type_of next) has ∙ typed)
 
-  answers : (t : ValueType) (o : Option (Result Val Exn)) (i : Instr) (at : ℕ) (stack variables next : List Val) (turns : ℕ) (after : Stack)
+  pub answers : (t : ValueType) (o : Option (Result Val Exn)) (i : Instr) (at : ℕ) (stack variables next : List Val) (turns : ℕ) (after : Stack)
       → IsIn (suc at) (next_in_task at i) → ((v : ℕ) → writes i ≡ Some v → ⊥) → (is_turn i ≡ true → ⊥)
       → AnswerHas (Some t) o → t ∷ map type_of next ≡ after
       → StepFits graph m field gathered i (frame at stack variables turns) after (machine.answered o next (frame at stack variables turns))
@@ -157,19 +162,15 @@ module _ (graph : Graph) (m : GraphMethod) (field : Option (List ℕ)) (gathered
       goes_on i at stack variables (v ∷ next) turns after is_next none no_turn (ap (λ u. u ∷ map type_of next) has ∙ typed)
   answers t (Some (Err e)) i at stack variables next turns after is_next none no_turn has typed = (refl, tt)
 
-  abbrev FoundHas : ValueType → Option Val → Type 0
-  FoundHas t None = Unit {0}
-  FoundHas t (Some v) = type_of v ≡ t
-
-  finds : (t : ValueType) (o : Option Val) (i : Instr) (at : ℕ) (stack variables next : List Val) (turns : ℕ) (after : Stack)
+  pub finds : (t : ValueType) (o : Option Val) (i : Instr) (at : ℕ) (stack variables next : List Val) (turns : ℕ) (after : Stack)
       → IsIn (suc at) (next_in_task at i) → ((v : ℕ) → writes i ≡ Some v → ⊥) → (is_turn i ≡ true → ⊥)
-      → FoundHas t o → t ∷ map type_of next ≡ after
+      → Has t o → t ∷ map type_of next ≡ after
       → StepFits graph m field gathered i (frame at stack variables turns) after (machine.found o next (frame at stack variables turns))
   finds t None i at stack variables next turns after is_next none no_turn has typed = (refl, tt)
   finds t (Some v) i at stack variables next turns after is_next none no_turn has typed =
       goes_on i at stack variables (v ∷ next) turns after is_next none no_turn (ap (λ u. u ∷ map type_of next) has ∙ typed)
 
-  stores : (i : Instr) (at v : ℕ) (x : Val) (stack variables next : List Val) (turns : ℕ) (after : Stack)
+  pub stores : (i : Instr) (at v : ℕ) (x : Val) (stack variables next : List Val) (turns : ℕ) (after : Stack)
       → IsIn (suc at) (next_in_task at i) → ((w : ℕ) → writes i ≡ Some w → v ≡ w) → (is_turn i ≡ true → ⊥)
       → v < length variables → HoldsIn (slice_get m.vars v) gathered (Some x) → map type_of next ≡ after
       → StepFits graph m field gathered i (frame at stack variables turns) after (machine.stored v x next (frame at stack variables turns))
@@ -196,11 +197,11 @@ stored_parts : (o : Option ValueType) (types after : Stack) → stored_type o ty
 stored_parts None types after e = absurd (none_some after e)
 stored_parts (Some t) types after e = (t, refl, one_off t types after e)
 
-result_parts : (t : ValueType) (o : Option Stack) (after : Stack) → with_result t o ≡ Some after → (stack : Stack) × (o ≡ Some stack) × (on_top t stack ≡ after)
+pub result_parts : (t : ValueType) (o : Option Stack) (after : Stack) → with_result t o ≡ Some after → (stack : Stack) × (o ≡ Some stack) × (on_top t stack ≡ after)
 result_parts t None after e = absurd (none_some after e)
 result_parts t (Some stack) after e = (stack, refl, some_is (on_top t stack) after e)
 
-if_parts : (o : Option ValueType) (t : ValueType) (p : Option Stack) (after : Stack) → if_type o t p ≡ Some after → (o ≡ Some t) × (p ≡ Some after)
+pub if_parts : (o : Option ValueType) (t : ValueType) (p : Option Stack) (after : Stack) → if_type o t p ≡ Some after → (o ≡ Some t) × (p ≡ Some after)
 if_parts None t p after e = absurd (none_some after e)
 if_parts (Some s) t p after e = by (same_type s t) refl e
   where
@@ -208,12 +209,12 @@ if_parts (Some s) t p after e = by (same_type s t) refl e
     by true is e = (ap Some (same_is s t is), e)
     by false is e = absurd (none_some after e)
 
-members_parts : (o : Option ValueType) (p : Option Stack) (after : Stack) → if_members o p ≡ Some after → p ≡ Some after
+pub members_parts : (o : Option ValueType) (p : Option Stack) (after : Stack) → if_members o p ≡ Some after → p ≡ Some after
 members_parts None p after e = absurd (none_some after e)
 members_parts (Some t) p after e = e
 
 -- a variable of type `Vector` that holds something holds a vector
-vector_in : (gathered : List Val) (o : Option VariableType) (x : Option Val) → in_variable one_type o ≡ Some type.Vector → HoldsIn o gathered x → (longs : List ℤ) × (x ≡ Some (val.Vector longs))
+pub vector_in : (gathered : List Val) (o : Option VariableType) (x : Option Val) → in_variable one_type o ≡ Some type.Vector → HoldsIn o gathered x → (longs : List ℤ) × (x ≡ Some (val.Vector longs))
 vector_in gathered None x e h = absurd h
 vector_in gathered (Some (Collection t)) x e h = absurd (none_some type.Vector e)
 vector_in gathered (Some (One t)) None e h = absurd h
@@ -224,37 +225,33 @@ vector_in gathered (Some (One t)) (Some (val.Bool b)) e h = let k : type.Boolean
 vector_in gathered (Some (One t)) (Some val.Unit) e h = let k : type.Void ≡ type.Vector = h ∙ some_is (type_by t) type.Vector e in absurd (cc)
 
 -- the members of a collection that is held
-members_in : (gathered : List Val) (o : Option VariableType) (x : Option Val) (t : ValueType) → in_variable member_type o ≡ Some t → HoldsIn o gathered x → AreOf t gathered
+pub members_in : (gathered : List Val) (o : Option VariableType) (x : Option Val) (t : ValueType) → in_variable member_type o ≡ Some t → HoldsIn o gathered x → AreOf t gathered
 members_in gathered None x t e h = absurd h
 members_in gathered (Some (One s)) x t e h = absurd (none_some t e)
 members_in gathered (Some (Collection s)) x t e h = subst (λ u. AreOf u gathered) (some_is (type_by s) t e) h
-
-abbrev Has : ValueType → Option Val → Type 0
-Has t None = Unit {0}
-Has t (Some v) = type_of v ≡ t
 
 member_at : (t : ValueType) (gathered : List Val) (k : ℕ) → AreOf t gathered → Has t (slice_get gathered k)
 member_at t [] k h = tt
 member_at t (v ∷ vs) zero h = h.0
 member_at t (v ∷ vs) (suc k) h = member_at t vs k h.1
 
-member_found : (t : ValueType) (gathered : List Val) (i : ℤ) → AreOf t gathered → Has t (machine.item_at gathered (machine.at_index i))
+pub member_found : (t : ValueType) (gathered : List Val) (i : ℤ) → AreOf t gathered → Has t (machine.item_at gathered (machine.at_index i))
 member_found t gathered (pos i) h = member_at t gathered i h
 member_found t gathered (negsuc i) h = tt
 
-long_found : (o : Option ℤ) → Has type.Long (machine.a_long o)
+pub long_found : (o : Option ℤ) → Has type.Long (machine.a_long o)
 long_found None = tt
 long_found (Some n) = refl
 
-pushed_types : (v : Val) (stack : List Val) → map type_of (machine.pushed_result v stack) ≡ on_top (type_of v) (map type_of stack)
+pub pushed_types : (v : Val) (stack : List Val) → map type_of (machine.pushed_result v stack) ≡ on_top (type_of v) (map type_of stack)
 pushed_types val.Unit stack = refl
 pushed_types _ stack = refl
 
 module _ (graph : Graph) (m : GraphMethod) (calls : Calls) (field : Option (List ℕ)) (key : Option ℤ) (gathered : List Val) where
-  abbrev Does : Instr → ℕ → List Val → List Val → ℕ → Stack → Type 0
+  abbrev pub Does : Instr → ℕ → List Val → List Val → ℕ → Stack → Type 0
   Does i at stack variables turns after = StepFits graph m field gathered i (frame at stack variables turns) after (perform_on (setting_of graph calls field key gathered) i stack (frame at stack variables turns))
 
-  load : (v : ℕ) (o : Option VariableType) (x : Option Val) (at : ℕ) (stack variables : List Val) (turns : ℕ) (after : Stack) → HoldsIn o gathered x
+  pub load : (v : ℕ) (o : Option VariableType) (x : Option Val) (at : ℕ) (stack variables : List Val) (turns : ℕ) (after : Stack) → HoldsIn o gathered x
       → pushing (in_variable one_type o) (Some (map type_of stack)) ≡ Some after
       → StepFits graph m field gathered (instr.Load v) (frame at stack variables turns) after (machine.pushed (a_value x) stack (frame at stack variables turns))
   load v None x at stack variables turns after h e = absurd h
@@ -264,7 +261,7 @@ module _ (graph : Graph) (m : GraphMethod) (calls : Calls) (field : Option (List
       pushes graph m field gathered (type_by t) (a_value (Some x)) (instr.Load v) at stack variables stack turns after (IsFirst []) none_some false≢true (value_of t x h)
           (sym (on_top_by t (map type_of stack)) ∙ some_is (on_top (type_by t) (map type_of stack)) after e)
 
-  store : (v : ℕ) (at : ℕ) (stack variables : List Val) (turns : ℕ) (after : Stack) → length variables ≡ length m.vars
+  pub store : (v : ℕ) (at : ℕ) (stack variables : List Val) (turns : ℕ) (after : Stack) → length variables ≡ length m.vars
       → stored_type (type_of_variable m v) (map type_of stack) ≡ Some after → Does (instr.Store v) at stack variables turns after
   store v at [] variables turns after room e = let k = (stored_parts (type_of_variable m v) [] after e).2 in absurd (cc)
   store v at (x ∷ stack) variables turns after room e =
@@ -276,7 +273,7 @@ module _ (graph : Graph) (m : GraphMethod) (calls : Calls) (field : Option (List
       let within : v < length variables = omega arith in
       stores graph m field gathered (instr.Store v) at v x (x ∷ stack) variables stack turns after (IsFirst []) (λ w q. some_is v w q) false≢true within (value_holds m gathered v x is) (cc)
 
-  pop : (at : ℕ) (stack variables : List Val) (turns : ℕ) (after : Stack) → types_after graph m instr.Pop (map type_of stack) ≡ Some after → Does instr.Pop at stack variables turns after
+  pub pop : (at : ℕ) (stack variables : List Val) (turns : ℕ) (after : Stack) → types_after graph m instr.Pop (map type_of stack) ≡ Some after → Does instr.Pop at stack variables turns after
   pop at [] variables turns after e = none_some after e
   pop at (x ∷ stack) variables turns after e = goes_on graph m field gathered instr.Pop at (x ∷ stack) variables stack turns after (IsFirst []) none_some false≢true (some_is (map type_of stack) after e)
 
@@ -302,13 +299,13 @@ module _ (graph : Graph) (m : GraphMethod) (calls : Calls) (field : Option (List
           (answers graph m field gathered of (operation op a b) (instr.Bin op t) at (b ∷ a ∷ rest) variables rest turns after (IsFirst []) none_some false≢true has
               (ap (λ us. of ∷ us) others ∙ sym (on_top_is of types value) ∙ top))
 
-  binary : (op : BinOp) (t : OperandType) (at : ℕ) (stack variables : List Val) (turns : ℕ) (after : Stack)
+  pub binary : (op : BinOp) (t : OperandType) (at : ℕ) (stack variables : List Val) (turns : ℕ) (after : Stack)
       → operated_type op (operand_type t) (right_type op t) (map type_of stack) ≡ Some after → Does (instr.Bin op t) at stack variables turns after
   binary op t at stack variables turns after e =
       let p = pushing_is (binary_type op (operand_type t) (right_type op t)) (without (operand_type t ∷ right_type op t ∷ []) (map type_of stack)) after e in
       bin_on op t p.of p.stack at stack variables turns after (two_off (operand_type t) (right_type op t) (map type_of stack) p.stack p.is_stack) p.is_type p.top
 
-  un_op : (op : UnOp) (at : ℕ) (stack variables : List Val) (turns : ℕ) (after : Stack)
+  pub un_op : (op : UnOp) (at : ℕ) (stack variables : List Val) (turns : ℕ) (after : Stack)
       → types_after graph m (instr.Un op) (map type_of stack) ≡ Some after → Does (instr.Un op) at stack variables turns after
   un_op op at [] variables turns after e = none_some after e
   un_op op at (a ∷ rest) variables turns after e =
@@ -318,7 +315,7 @@ module _ (graph : Graph) (m : GraphMethod) (calls : Calls) (field : Option (List
           (subst (λ o. ValueHas o (unary_operation op a)) p.is_type (unary_has op a))
           (ap (λ us. p.of ∷ us) (some_is (map type_of rest) p.stack p.is_stack) ∙ sym (on_top_is p.of p.stack value) ∙ p.top)
 
-  cast : (t : Num) (at : ℕ) (stack variables : List Val) (turns : ℕ) (after : Stack)
+  pub cast : (t : Num) (at : ℕ) (stack variables : List Val) (turns : ℕ) (after : Stack)
       → types_after graph m (instr.Cast t) (map type_of stack) ≡ Some after → Does (instr.Cast t) at stack variables turns after
   cast num.Int at (val.Int a ∷ rest) variables turns after e = goes_on graph m field gathered (instr.Cast num.Int) at (val.Int a ∷ rest) variables (_ ∷ rest) turns after (IsFirst []) none_some false≢true (some_is (type.Int ∷ map type_of rest) after e)
   cast num.Int at (val.Long a ∷ rest) variables turns after e = goes_on graph m field gathered (instr.Cast num.Int) at (val.Long a ∷ rest) variables (_ ∷ rest) turns after (IsFirst []) none_some false≢true (some_is (type.Int ∷ map type_of rest) after e)
@@ -326,13 +323,13 @@ module _ (graph : Graph) (m : GraphMethod) (calls : Calls) (field : Option (List
   cast num.Long at (val.Long a ∷ rest) variables turns after e = goes_on graph m field gathered (instr.Cast num.Long) at (val.Long a ∷ rest) variables (_ ∷ rest) turns after (IsFirst []) none_some false≢true (some_is (type.Long ∷ map type_of rest) after e)
   cast _ at _ variables turns after e = absurd (none_some after e)
 
-  if_false : (to : ℕ) (at : ℕ) (stack variables : List Val) (turns : ℕ) (after : Stack)
+  pub if_false : (to : ℕ) (at : ℕ) (stack variables : List Val) (turns : ℕ) (after : Stack)
       → without (type.Boolean ∷ []) (map type_of stack) ≡ Some after → Does (instr.IfFalse to) at stack variables turns after
   if_false to at (val.Bool true ∷ rest) variables turns after e = goes_on graph m field gathered (instr.IfFalse to) at (val.Bool true ∷ rest) variables rest turns after (IsFirst (to ∷ [])) none_some false≢true (some_is (map type_of rest) after e)
   if_false to at (val.Bool false ∷ rest) variables turns after e = jumps graph m field gathered (instr.IfFalse to) at to (val.Bool false ∷ rest) variables rest turns after (IsLater (suc at) (to ∷ []) (IsFirst [])) none_some false≢true (some_is (map type_of rest) after e)
   if_false to at _ variables turns after e = absurd (none_some after e)
 
-  turn : (at : ℕ) (stack variables : List Val) (turns : ℕ) (after : Stack) → Some (map type_of stack) ≡ Some after → Does instr.Turn at stack variables turns after
+  pub turn : (at : ℕ) (stack variables : List Val) (turns : ℕ) (after : Stack) → Some (map type_of stack) ≡ Some after → Does instr.Turn at stack variables turns after
   turn at stack variables zero after e = (refl, tt)
   turn at stack variables (suc left) after e = record {
     next = IsFirst [];
@@ -344,7 +341,7 @@ module _ (graph : Graph) (m : GraphMethod) (calls : Calls) (field : Option (List
     spent = λ q. omega arith;
   }
 
-  new_vector : (at : ℕ) (stack variables : List Val) (turns : ℕ) (after : Stack)
+  pub new_vector : (at : ℕ) (stack variables : List Val) (turns : ℕ) (after : Stack)
       → with_result type.Vector (without (type.Int ∷ []) (map type_of stack)) ≡ Some after → Does instr.NewVector at stack variables turns after
   new_vector at (val.Int (pos n) ∷ rest) variables turns after e = by (nat_lt machine.most_elements n)
     where
