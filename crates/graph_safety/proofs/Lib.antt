@@ -5,3 +5,5 @@ pub mod Stacks
 pub mod Frames
 pub mod Steps
 pub mod Instructions
+pub mod Ways
+pub mod Runs
