@@ -7,3 +7,5 @@ pub mod Steps
 pub mod Instructions
 pub mod Ways
 pub mod Runs
+pub mod Calls
+pub mod Carried
