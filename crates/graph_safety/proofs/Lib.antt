@@ -9,3 +9,6 @@ pub mod Ways
 pub mod Runs
 pub mod Calls
 pub mod Carried
+pub mod Items
+pub mod Tasks
+pub mod Outputs
