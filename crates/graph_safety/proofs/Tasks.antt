@@ -37,13 +37,13 @@ module _ (graph : Graph) (verified : IsVerified graph) (k : ℕ) (t : Task) (m :
   pub of_task : (at : ℕ) (i : Instr) → Reaches m.code t.at at → slice_get m.code at ≡ Some i → IsOfTask graph t i
   of_task at i reached is_code = verified.in_tasks k t at i task.is_task (reaches_code at i reached is_code)
 
-  allowed : (i : Instr) → IsOfTask graph t i → Allowed graph t.field key gathered i
+  pub allowed : (i : Instr) → IsOfTask graph t i → Allowed graph t.field key gathered i
   allowed (instr.Access name method) h = h
   allowed instr.Key h = task.keyed h
   allowed (instr.Merge c) h = λ of is_method is_kind. task.merges h.0 c h.1 of is_method is_kind
   allowed _ h = tt
 
-  pub on : Standing graph t.method m (calls_of graph.fields graph.methods) t.field key gathered t.at turns
+  abbrev pub on : Standing graph t.method m (calls_of graph.fields graph.methods) t.field key gathered t.at turns
   on = record {
     is_method = task.is_method;
     begins = TaskBegins k t task.is_task refl;
@@ -52,7 +52,6 @@ module _ (graph : Graph) (verified : IsVerified graph) (k : ℕ) (t : Task) (m :
   }
 
   first : FrameFits graph verified t.method m (calls_of graph.fields graph.methods) t.field key gathered t.at turns t.vars on (frame t.at [] variables turns)
-  unfolding on
   first = record {
     reached = ReachesStart;
     stacked = (verified.types t.method m task.is_method).starts t.at (TaskBegins k t task.is_task refl);
