@@ -12,3 +12,4 @@ pub mod Carried
 pub mod Items
 pub mod Tasks
 pub mod Outputs
+pub mod Starts

@@ -82,7 +82,7 @@ part_has type.Void (x ∷ xs) e = absurd (cc)
 part_has _ [] e = absurd (cc)
 part_has _ (x ∷ xs) e = cc
 
-no_value_has : (t : Option ValueType) (how : Outcome) → HasNoValue how → HasType t how
+pub no_value_has : (t : Option ValueType) (how : Outcome) → HasNoValue how → HasType t how
 no_value_has t (outcome.Value v) h = absurd h
 no_value_has t (outcome.Throws e) h = tt
 no_value_has t outcome.Limit h = tt
