@@ -13,3 +13,4 @@ pub mod Items
 pub mod Tasks
 pub mod Outputs
 pub mod Starts
+pub mod Joins

@@ -46,7 +46,7 @@ use Rattle.graph_safety.proofs.Outputs.{IsVisitOf, IsFor, Starts, GivesRight, af
 -- ---- a task with an item's values
 
 module _ (graph : Graph) (verified : IsVerified graph) (widths : List ℕ) (are : AreWidths graph widths) where
-  task_item : (at : Port) (from : Item) (parts : List Item) (k : ℕ) (j : TaskKind) (key : Option ℤ) (gathered vs : List Val) (turns pick call : ℕ) (visited : Option Visited) (state : State)
+  pub task_item : (at : Port) (from : Item) (parts : List Item) (k : ℕ) (j : TaskKind) (key : Option ℤ) (gathered vs : List Val) (turns pick call : ℕ) (visited : Option Visited) (state : State)
       → (it : Taking graph j (slice_get graph.tasks k) turns vs) → (j ≡ kind.Keyed → HasKey key)
       → (j ≡ kind.Join → (c : ℕ) → TakesBrought graph it.t c → (of : GraphMethod) → IsMethod graph c of → of.kind ≡ method_kind.Merge → ArgsFit of (val.Unit ∷ []) gathered)
       → Starts graph at from parts k it.t it.m turns call visited → IsStateFor graph it.t.field state
@@ -70,7 +70,7 @@ module _ (graph : Graph) (verified : IsVerified graph) (widths : List ℕ) (are 
         merges = λ e. merges (sym it.of_kind ∙ e);
       }
 
-  method_is : (k : ℕ) (j : TaskKind) (turns : ℕ) (vs : List Val) (it : Taking graph j (slice_get graph.tasks k) turns vs) → method_of graph (slice_get graph.tasks k) ≡ Some it.m
+  pub method_is : (k : ℕ) (j : TaskKind) (turns : ℕ) (vs : List Val) (it : Taking graph j (slice_get graph.tasks k) turns vs) → method_of graph (slice_get graph.tasks k) ≡ Some it.m
   method_is k j turns vs it = ap (λ (o : Option Task). method_of graph o) it.is ∙ it.is_method
 
   -- ---- slots and instances
@@ -82,7 +82,7 @@ module _ (graph : Graph) (verified : IsVerified graph) (widths : List ℕ) (are 
   has_key n width None e = false≢true e
   has_key n width (Some key) e = tt
 
-  slot_item : (f n call k turns : ℕ) (key : Option ℤ) (vs : List Val) (pick : ℕ) (state : State) → keyed_work graph widths f n k key turns vs ≡ true → IsStateOf (slice_get graph.fields f) state
+  pub slot_item : (f n call k turns : ℕ) (key : Option ℤ) (vs : List Val) (pick : ℕ) (state : State) → keyed_work graph widths f n k key turns vs ≡ true → IsStateOf (slice_get graph.fields f) state
       → GivesRight graph widths (port.Slot f n) (item.Work call k key turns vs) [] state (run_from (sender graph widths pick call None) (slice_get graph.tasks k) key [] turns vs state)
   slot_item f n call k turns key vs pick state e there =
       let a = both_true (takes_at graph kind.Keyed f (slice_get graph.tasks k) turns vs) (is_key_of n (width_of widths f) key) e in
@@ -92,7 +92,7 @@ module _ (graph : Graph) (verified : IsVerified graph) (widths : List ℕ) (are 
           (record { of_call = refl; with_turns = refl; runs_method = method_is k kind.Keyed turns vs it; for = (tt, λ q. let r = sym it.of_kind ∙ q in absurd (cc)) })
           (state_for graph it.t.field f state (field_is graph (slice_get graph.tasks k) it.t f it.is b.0) there)
 
-  instance_item : (f n call k turns : ℕ) (key : Option ℤ) (vs : List Val) (pick : ℕ) (state : State) → local_work graph f k key turns vs ≡ true → IsStateOf (slice_get graph.fields f) state
+  pub instance_item : (f n call k turns : ℕ) (key : Option ℤ) (vs : List Val) (pick : ℕ) (state : State) → local_work graph f k key turns vs ≡ true → IsStateOf (slice_get graph.fields f) state
       → GivesRight graph widths (port.Inst f n) (item.Work call k key turns vs) [] state (run_from (sender graph widths pick call None) (slice_get graph.tasks k) key [] turns vs state)
   instance_item f n call k turns key vs pick state e there =
       let a = both_true (takes_at graph kind.Local f (slice_get graph.tasks k) turns vs) (no_key key) e in
@@ -102,7 +102,7 @@ module _ (graph : Graph) (verified : IsVerified graph) (widths : List ℕ) (are 
           (record { of_call = refl; with_turns = refl; runs_method = method_is k kind.Local turns vs it; for = (tt, λ q. let r = sym it.of_kind ∙ q in absurd (cc)) })
           (state_for graph it.t.field f state (field_is graph (slice_get graph.tasks k) it.t f it.is b.0) there)
 
-  visit_item : (f n call k width turns : ℕ) (vs : List Val) (pick : ℕ) (state : State) → visiting graph f n k width turns vs ≡ true → IsStateOf (slice_get graph.fields f) state
+  pub visit_item : (f n call k width turns : ℕ) (vs : List Val) (pick : ℕ) (state : State) → visiting graph f n k width turns vs ≡ true → IsStateOf (slice_get graph.fields f) state
       → GivesRight graph widths (port.Inst f n) (item.Visit call k width turns vs) [] state (run_from (sender graph widths pick call (visit width n k)) (slice_get graph.tasks k) None [] turns vs state)
   visit_item f n call k width turns vs pick state e there =
       let a = both_true (takes_at graph kind.Visit f (slice_get graph.tasks k) turns vs) (is_instance width n) e in
@@ -164,7 +164,7 @@ module _ (graph : Graph) (verified : IsVerified graph) (widths : List ℕ) (are 
                   (run (setting_of graph (calls_of graph.fields graph.methods) start.of.field None []) m.code (frame start.of.at [] (first_variables m args) turns_at_start) state) state
                   (task_runs graph verified start.number start.of m None [] (first_variables m args) turns_at_start (start_task n m args is start stands typed) state (λ name own. absurd (none_some name (sym stands.no_field ∙ own))))))
 
-  front_item : (call n : ℕ) (args : List Val) (pick : ℕ) (state : State) (o : Option GraphMethod) → slice_get graph.methods n ≡ o → starts o args ≡ true
+  pub front_item : (call n : ℕ) (args : List Val) (pick : ℕ) (state : State) (o : Option GraphMethod) → slice_get graph.methods n ≡ o → starts o args ≡ true
       → GivesRight graph widths port.Front (item.Start call n args) [] state (started (sender graph widths pick call None) o args turns_at_start state)
   front_item call n args pick state None is e = absurd (false≢true e)
   front_item call n args pick state (Some m) is e =
