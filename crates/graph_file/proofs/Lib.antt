@@ -1,1 +1,6 @@
 pub mod Whole
+pub mod Lists
+pub mod Others
+pub mod Back
+pub mod Depths
+pub mod Readings

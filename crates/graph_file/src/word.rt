@@ -9,7 +9,7 @@ use sdg_base::{BinOp, ClassName, Num, UnOp};
 use state_classes::Method;
 
 /// What a graph file names by a word.
-pub(crate) trait Word: Copy {
+pub(crate) trait Word: Copy + 'static {
     ghost word: { Self → List ℕ };
 
     ghost all: { List Self };
