@@ -310,16 +310,25 @@ checked around = fold-Statement Checking (checked_step around)
 abbrev pub checked_list : Surroundings → List Statement → Checking
 checked_list around ss = in_order (map (checked around) ss)
 
--- ---- blocks: the first access in the code of a block is to its field
+-- ---- blocks: the first access in the code of a block is one to a part of its field
+
+-- to a part of a field, or to each instance of one
+pub data Reach : Type 0 where
+  ToPart : ℕ → Reach
+  ToEach : Reach
 
 pub record Accessing : Type 0 where
-  pub first : Option ℕ
+  pub first : Option Reach
   pub is_right : Bool
 
-abbrev pub accessing : Option ℕ → Bool → Accessing
+abbrev pub accessing : Option Reach → Bool → Accessing
 accessing first is_right = record { first = first; is_right = is_right }
 
-abbrev pub first_of : Option ℕ → Option ℕ → Option ℕ
+abbrev pub is_to_part : ℕ → Option Reach → Bool
+is_to_part field (Some (ToPart f)) = nat_eq f field
+is_to_part field _ = false
+
+abbrev pub first_of : Option Reach → Option Reach → Option Reach
 first_of None b = b
 first_of (Some a) b = Some a
 
@@ -335,9 +344,9 @@ maybe_after a None = a
 maybe_after a (Some b) = one_after a b
 
 abbrev pub accessing_step : Statement-F Accessing → Accessing
-accessing_step (s.Access a) = accessing (Some a.field) true
-accessing_step (s.Gather g) = accessing (Some g.field) true
-accessing_step (s.Marked mark body) = accessing body.first (body.is_right && same_number body.first (Some mark.field))
+accessing_step (s.Access a) = accessing (Some (ToPart a.field)) true
+accessing_step (s.Gather g) = accessing (Some ToEach) true
+accessing_step (s.Marked mark body) = accessing body.first (body.is_right && is_to_part mark.field body.first)
 accessing_step (s.Opened body) = body
 accessing_step (s.Block items) = one_by_one items
 accessing_step (s.If test first second) = maybe_after first second
