@@ -14,3 +14,4 @@ pub mod Tasks
 pub mod Outputs
 pub mod Starts
 pub mod Joins
+pub mod Small
