@@ -1,5 +1,5 @@
 -- Calls of helper and merge methods go right with fewer turns than they may be deep.
-use Rattle.std.proofs.Common.{◌≡◌, ◌≢◌, refl, sym, ap, subst, ◌∙◌, ℕ, zero, suc, ◌+◌, ◌-◌, ◌<◌, ◌≤◌, arith, Bool, true, false, List, [], ◌∷◌, ◌++◌, map, length, replicate, Option, Some, None, slice_get}
+use Rattle.std.proofs.Common.{◌≡◌, ◌≢◌, refl, sym, subst, ◌∙◌, ℕ, zero, suc, ◌-◌, ◌<◌, ◌≤◌, arith, true, false, List, [], length, replicate, Option, Some, None, slice_get}
 use Rattle.std.proofs.lemmas.Bool.{false≢true}
 use Rattle.std.proofs.lemmas.List.{length-append, length-replicate}
 use Rattle.sdg_base.specs.declared.val.Val.{Val}
@@ -11,12 +11,12 @@ use Rattle.flat_code.specs.declared.graph.MethodKind.TheVariants as method_kind
 use Rattle.flat_code.specs.declared.graph.Instr.{Instr}
 use Rattle.flat_code.specs.declared.graph.Instr.TheVariants as instr
 use Rattle.flat_code.specs.Machine.{Frame, Calls, Ending, Returned, Stopped, CutTo, PartFor, Ran, calls_within, first_variables, first_frame, no_state, given_by, given, method_run, run}
-use Rattle.flat_code.specs.Ways.{Reaches, ReachesStart}
-use Rattle.flat_code.specs.Verified.{IsVerified, IsMethod, Begins, MethodBegins, IsOfBody, is_of_entry}
-use Rattle.graph_safety.proofs.Lists.{none_some, some_is}
+use Rattle.flat_code.specs.Ways.{ReachesStart}
+use Rattle.flat_code.specs.Verified.{IsVerified, IsMethod, MethodBegins, IsOfBody, is_of_entry}
+use Rattle.graph_safety.proofs.Lists.{none_some}
 use Rattle.graph_safety.proofs.Frames.{ArgsFit, CalledFits, CallsFit, setting_of, Allowed}
 use Rattle.graph_safety.proofs.Ways.{among}
-use Rattle.graph_safety.proofs.Runs.{Standing, FrameFits, EndsRight, RanRight, RunsRight, runs_right}
+use Rattle.graph_safety.proofs.Runs.{Standing, FrameFits, EndsRight, RunsRight, runs_right}
 
 pub first_variables_as_many : (of : GraphMethod) (args : List Val) → length args ≤ length of.vars → length (first_variables of args) ≡ length of.vars
 first_variables_as_many of args most =

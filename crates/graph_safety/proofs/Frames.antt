@@ -1,12 +1,11 @@
 -- Where a run of typed code stands, and what each instruction may leave there.
-use Rattle.std.proofs.Common.{◌≡◌, ◌≢◌, refl, sym, ap, subst, ◌∙◌, ℕ, ℤ, zero, suc, ◌<◌, ◌≤◌, Bool, true, false, cond, List, [], ◌∷◌, map, length, Option, Some, None, slice_get, slice_set, nat_lt, inl, inr, ◌⊎◌}
+use Rattle.std.proofs.Common.{◌≡◌, ◌≢◌, refl, sym, subst, ℕ, ℤ, suc, ◌<◌, ◌≤◌, Bool, true, false, List, [], ◌∷◌, map, length, Option, Some, None, slice_get, slice_set, inl, inr, ◌⊎◌}
 use Rattle.std.proofs.lemmas.Bool.{false≢true}
 use Rattle.sdg_base.specs.declared.val.Val.{Val}
 use Rattle.sdg_base.specs.declared.val.Val.TheVariants as val
 use Rattle.sdg_base.specs.declared.val.Outcome.{Outcome}
 use Rattle.sdg_base.specs.declared.val.Outcome.TheVariants as outcome
 use Rattle.sdg_base.specs.declared.value_type.ValueType.{ValueType}
-use Rattle.sdg_base.specs.declared.value_type.ValueType.TheVariants as type
 use Rattle.sdg_base.specs.Signatures.{Signature}
 use Rattle.sdg_base.specs.Types.{type_of}
 use Rattle.state_classes.specs.declared.method.Method.{Method}
@@ -17,12 +16,12 @@ use Rattle.flat_code.specs.declared.graph.Instr.{Instr}
 use Rattle.flat_code.specs.declared.graph.Instr.TheVariants as instr
 use Rattle.flat_code.specs.declared.graph.VariableType.{VariableType}
 use Rattle.flat_code.specs.declared.graph.VariableType.TheVariants.{One, Collection}
-use Rattle.flat_code.specs.Types.{type_by, result_by, type_of_variable, in_variable, one_type, signature_at, same_type}
+use Rattle.flat_code.specs.Types.{type_by, result_by, type_of_variable, in_variable, one_type, signature_at}
 use Rattle.flat_code.specs.Machine.{Frame, Calls, Called, Gave, Failed, Setting, Ending, Returned, Stopped, CutTo, PartFor, Performed, Goes, Accesses, Ends, first_variables, part_value}
 use Rattle.flat_code.specs.Ways.{IsIn, next_in_task, writes}
 use Rattle.flat_code.specs.Fits.{is_type}
 use Rattle.flat_code.specs.Verified.{Stack, IsMethod, on_top}
-use Rattle.graph_safety.proofs.Lists.{none_some, get_set, get_set_other, get_within, same_or_not}
+use Rattle.graph_safety.proofs.Lists.{get_set, get_set_other, get_within, same_or_not}
 use Rattle.graph_safety.proofs.Values.{same_is}
 
 -- ---- variables

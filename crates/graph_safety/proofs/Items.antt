@@ -1,10 +1,10 @@
 -- What items that fit say of their tasks and fields, and of which tasks and fields an item fits.
-use Rattle.std.proofs.Common.{◌≡◌, ◌≢◌, refl, sym, ap, subst, ◌∙◌, ℕ, ℤ, zero, suc, ◌<◌, ◌≤◌, ◌%◌, arith, mod-lt, Bool, true, false, cond, ◌&&◌, not, nat_lt, ◌==◌, List, [], ◌∷◌, map, length, Option, Some, None, IsTrue, slice_get, unwrap_or}
+use Rattle.std.proofs.Common.{◌≡◌, refl, sym, ap, subst, ◌∙◌, ℕ, ℤ, zero, suc, ◌<◌, ◌≤◌, arith, mod-lt, Bool, true, false, cond, ◌&&◌, not, nat_lt, List, [], ◌∷◌, length, Option, Some, None, slice_get, unwrap_or}
 use Rattle.std.specs.Str.{bytes_eq}
-use Rattle.std.proofs.lemmas.Bool.{false≢true, ltb-true, ltb-false, lt-ltb, le-ltb, eqb-true, eq-eqb}
+use Rattle.std.proofs.lemmas.Bool.{false≢true, ltb-false, lt-ltb, le-ltb, eqb-true, eq-eqb}
 use Rattle.sdg_base.specs.Limits.{turns_at_start}
 use Rattle.sdg_base.specs.declared.val.Val.{Val}
-use Rattle.state_classes.specs.States.{State, class_of}
+use Rattle.state_classes.specs.States.{State}
 use Rattle.placement.specs.Slots.{slot}
 use Rattle.flat_code.specs.declared.graph.FieldKind.{FieldKind}
 use Rattle.flat_code.specs.declared.graph.GraphField.{GraphField}
@@ -15,7 +15,7 @@ use Rattle.flat_code.specs.declared.graph.TaskKind.{TaskKind}
 use Rattle.flat_code.specs.declared.graph.TaskKind.TheVariants as kind
 use Rattle.flat_code.specs.Types.{number_of, counted, field_named}
 use Rattle.flat_code.specs.Items.{field_number, width_of}
-use Rattle.flat_code.specs.Fits.{has_types, values_fit, is_kind, is_number, takes, is_field, takes_at, is_instance}
+use Rattle.flat_code.specs.Fits.{has_types, values_fit, is_kind, is_number, takes, is_field, is_instance}
 use Rattle.flat_code.specs.Verified.{IsOf}
 use Rattle.graph_safety.specs.Safe.{IsWidth, AreWidths, IsStateOf, IsFieldOf}
 use Rattle.graph_safety.proofs.Lists.{none_some, some_is, both_true, and_true, get_within, within_get}

@@ -1,21 +1,17 @@
--- Parts at the join go right, and so each item.
-use Rattle.std.proofs.Common.{◌≡◌, ◌≢◌, refl, sym, ap, subst, ◌∙◌, ℕ, ℤ, zero, suc, ◌+◌, ◌<◌, ◌≤◌, arith, Bool, true, false, cond, ◌&&◌, nat_lt, List, [], ◌∷◌, map, length, Option, Some, None, IsTrue, slice_get, inl, inr, ◌⊎◌}
-use Rattle.std.specs.List.{range_with_len}
+-- Parts at the join go right.
+use Rattle.std.proofs.Common.{◌≡◌, refl, sym, ap, subst, ◌∙◌, ℕ, zero, suc, arith, Bool, true, false, cond, ◌&&◌, nat_lt, List, [], ◌∷◌, length, Option, Some, None, slice_get}
 use Rattle.std.proofs.lemmas.Bool.{false≢true, ltb-true}
-use Rattle.sdg_base.specs.Limits.{turns_at_start}
 use Rattle.sdg_base.specs.declared.val.Val.{Val}
 use Rattle.sdg_base.specs.declared.val.Val.TheVariants as val
 use Rattle.sdg_base.specs.declared.val.Outcome.{Outcome}
 use Rattle.sdg_base.specs.declared.val.Outcome.TheVariants as outcome
 use Rattle.sdg_base.specs.declared.value_type.ValueType.{ValueType}
-use Rattle.sdg_base.specs.declared.port.Port.{Port}
 use Rattle.sdg_base.specs.declared.port.Port.TheVariants as port
 use Rattle.sdg_base.specs.declared.item.Item.{Item}
 use Rattle.sdg_base.specs.declared.item.Item.TheVariants as item
 use Rattle.sdg_base.specs.Types.{type_of}
-use Rattle.state_classes.specs.States.{State, class_of}
+use Rattle.state_classes.specs.States.{State}
 use Rattle.flat_code.specs.declared.graph.GraphMethod.{GraphMethod}
-use Rattle.flat_code.specs.declared.graph.MethodKind.{MethodKind}
 use Rattle.flat_code.specs.declared.graph.MethodKind.TheVariants as method_kind
 use Rattle.flat_code.specs.declared.graph.Graph.{Graph}
 use Rattle.flat_code.specs.declared.graph.Task.{Task}
@@ -24,25 +20,17 @@ use Rattle.flat_code.specs.declared.graph.TaskKind.TheVariants as kind
 use Rattle.flat_code.specs.declared.graph.VariableType.{VariableType}
 use Rattle.flat_code.specs.declared.graph.VariableType.TheVariants.{One, Collection}
 use Rattle.flat_code.specs.Types.{type_by, in_variable, member_type}
-use Rattle.flat_code.specs.Machine.{calls_of, first_variables, run}
-use Rattle.flat_code.specs.Items.{Processed, Gives, Wait, Visited, Sender, sender, visit, started, run_in, run_from, carried_variables, method_of, field_number, width_of, with_part, instance_of, Gathered, AllValues, FirstOther, gathered_of, gathered_in, with_value, joined_with, joined_from, joined, after_run, done, runs}
-use Rattle.flat_code.specs.Ways.{IsIn}
-use Rattle.flat_code.specs.Fits.{parameters, has_types, is_type, is_entry, starts, brought, is_brought, brings, takes, takes_at, is_field, is_instance, is_key_of, no_key, joining, keyed_work, local_work, visiting, fits}
-use Rattle.flat_code.specs.Verified.{IsVerified, IsTask, IsMethod, HasStart, IsStart, StandsRight, TakesBrought}
-use Rattle.graph_safety.specs.Safe.{AreWidths, IsStateAt, IsStateOf, AreOfOneJoin, IsBeside, ArePartsBeside, call_of, turns_of, turns_of_first, method_for, result_of, HasType, OutputFits, GoesRight, VerifiedGraphsNeverGoWrong}
+use Rattle.flat_code.specs.Machine.{first_variables}
+use Rattle.flat_code.specs.Items.{Wait, Sender, sender, with_part, instance_of, Gathered, AllValues, FirstOther, gathered_of, gathered_in, joined_with, joined_from, joined}
+use Rattle.flat_code.specs.Fits.{is_type, brought, is_brought, brings, takes, is_instance, joining, fits}
+use Rattle.flat_code.specs.Verified.{IsVerified, IsMethod, StandsRight, TakesBrought}
+use Rattle.graph_safety.specs.Safe.{AreWidths, AreOfOneJoin, ArePartsBeside, turns_of, turns_of_first, method_for, result_of}
 use Rattle.graph_safety.proofs.Values.{same_is}
 use Rattle.graph_safety.proofs.Lists.{none_some, some_is, both_true}
-use Rattle.graph_safety.proofs.Frames.{AreOf, HoldsIn, Holds, HasNoValue, ArgsFit, HasKey, setting_of, frame}
-use Rattle.graph_safety.proofs.Instructions.{first_hold, types_as_many}
-use Rattle.graph_safety.proofs.Stacks.{range_length}
-use Rattle.graph_safety.proofs.Carried.{IsOne, ones, carried_room, carried_hold}
-use Rattle.graph_safety.proofs.Calls.{first_variables_as_many}
-use Rattle.graph_safety.proofs.Runs.{IsStateFor}
-use Rattle.graph_safety.proofs.Ways.{Among, among}
-use Rattle.graph_safety.proofs.Items.{Taking, taking, field_is, state_for}
-use Rattle.graph_safety.proofs.Tasks.{TaskFits, task_runs}
-use Rattle.graph_safety.proofs.Outputs.{IsVisitOf, IsFor, Starts, GivesRight, after_right, no_value_has}
-use Rattle.graph_safety.proofs.Starts.{task_item, method_is, slot_item, instance_item, visit_item, front_item}
+use Rattle.graph_safety.proofs.Frames.{AreOf, HoldsIn, Holds, HasNoValue, ArgsFit}
+use Rattle.graph_safety.proofs.Items.{Taking, taking}
+use Rattle.graph_safety.proofs.Outputs.{GivesRight, no_value_has}
+use Rattle.graph_safety.proofs.Starts.{task_item, method_is}
 
 -- ---- each of a list
 
@@ -178,7 +166,7 @@ module _ (graph : Graph) (verified : IsVerified graph) (widths : List ℕ) (are 
         by true e = (ltb-true (length (with_part part parts)) width e, refl)
         by false e = from_parts (with_part part parts) refl h
 
-  part_item : (call k width instance turns : ℕ) (vs : List Val) (how : Outcome) (parts : List Item) (pick : ℕ) (state : State) → fits graph widths port.Join (item.Part call k width instance turns vs how) ≡ true
+  pub part_item : (call k width instance turns : ℕ) (vs : List Val) (how : Outcome) (parts : List Item) (pick : ℕ) (state : State) → fits graph widths port.Join (item.Part call k width instance turns vs how) ≡ true
       → ArePartsBeside graph widths (item.Part call k width instance turns vs how) parts
       → GivesRight graph widths port.Join (item.Part call k width instance turns vs how) parts state (joined (sender graph widths pick call None) width (with_part (item.Part call k width instance turns vs how) parts) state)
   part_item call k width instance turns vs how parts pick state e beside =
@@ -187,53 +175,3 @@ module _ (graph : Graph) (verified : IsVerified graph) (widths : List ℕ) (are 
       at_join call k width instance turns vs how parts pick state it
           (with_part_each (IsJoining graph widths call k) (item.Part call k width instance turns vs how) parts (e, (refl, refl))
               (each_of (IsJoining graph widths call k) parts (λ n other is. let b = beside n other is in (b.0, of_one_join call k width instance turns vs how other b.1))))
-
-  -- ---- any item
-
-  alone : (at : Port) (from : Item) (parts : List Item) (state : State) (g : List Item → Gives) → parts ≡ [] → GivesRight graph widths at from [] state (g []) → GivesRight graph widths at from parts state (g parts)
-  alone at from parts state g e h = subst (λ (ps : List Item). GivesRight graph widths at from ps state (g ps)) (sym e) h
-
-  gives_right : (at : Port) (from : Item) (parts : List Item) (state : State) (pick : ℕ) → fits graph widths at from ≡ true → ArePartsBeside graph widths from parts → IsStateAt graph at state
-      → GivesRight graph widths at from parts state (runs graph at from parts state pick widths)
-  unfolding fits runs
-  gives_right port.Front (item.Start call n args) parts state pick e beside there =
-      alone port.Front (item.Start call n args) parts state (λ ps. started (sender graph widths pick call None) (slice_get graph.methods n) args turns_at_start state) beside
-          (front_item graph verified widths are call n args pick state (slice_get graph.methods n) refl e)
-  gives_right (port.Slot f n) (item.Work call k key turns vs) parts state pick e beside there =
-      alone (port.Slot f n) (item.Work call k key turns vs) parts state (λ ps. run_from (sender graph widths pick call None) (slice_get graph.tasks k) key [] turns vs state) beside
-          (slot_item graph verified widths are f n call k turns key vs pick state e there)
-  gives_right (port.Inst f n) (item.Work call k key turns vs) parts state pick e beside there =
-      alone (port.Inst f n) (item.Work call k key turns vs) parts state (λ ps. run_from (sender graph widths pick call None) (slice_get graph.tasks k) key [] turns vs state) beside
-          (instance_item graph verified widths are f n call k turns key vs pick state e there)
-  gives_right (port.Inst f n) (item.Visit call k width turns vs) parts state pick e beside there =
-      alone (port.Inst f n) (item.Visit call k width turns vs) parts state (λ ps. run_from (sender graph widths pick call (visit width n k)) (slice_get graph.tasks k) None [] turns vs state) beside
-          (visit_item graph verified widths are f n call k width turns vs pick state e there)
-  gives_right port.Join (item.Part call k width instance turns vs how) parts state pick e beside there =
-      part_item call k width instance turns vs how parts pick state e beside
-  gives_right _ _ parts state pick e beside there = absurd (false≢true e)
-
-to_record : (graph : Graph) (widths : List ℕ) (at : Port) (from : Item) (parts : List Item) (state : State) (pick : ℕ) (g : Gives) → runs graph at from parts state pick widths ≡ g → GivesRight graph widths at from parts state g → GoesRight graph widths at from parts state pick
-to_record graph widths at from parts state pick None e h = absurd h
-to_record graph widths at from parts state pick (Some given) e h = record { given = given; runs = e; fits = h.0; class = h.1 }
-
-pub goes_right : VerifiedGraphsNeverGoWrong
-goes_right graph widths at from parts state pick verified are fitting beside there =
-    to_record graph widths at from parts state pick (runs graph at from parts state pick widths) refl (gives_right graph verified widths are at from parts state pick fitting beside there)
-
--- An item that fits gives something.
-pub runs_to_something : (graph : Graph) (widths : List ℕ) (at : Port) (from : Item) (parts : List Item) (state : State) (pick : ℕ)
-    → IsVerified graph → AreWidths graph widths → IsTrue (fits graph widths at from) → ArePartsBeside graph widths from parts → IsStateAt graph at state
-    → (given : Processed) × (runs graph at from parts state pick widths ≡ Some given)
-runs_to_something graph widths at from parts state pick verified are fitting beside there =
-    let right = goes_right graph widths at from parts state pick verified are fitting beside there in
-    (right.given, right.runs)
-
--- Whatever an item that fits gives, it fits its receiver, and the state stays of its class.
-pub what_is_given_fits : (graph : Graph) (widths : List ℕ) (at : Port) (from : Item) (parts : List Item) (state : State) (pick : ℕ) (given : Processed)
-    → IsVerified graph → AreWidths graph widths → IsTrue (fits graph widths at from) → ArePartsBeside graph widths from parts → IsStateAt graph at state
-    → runs graph at from parts state pick widths ≡ Some given
-    → OutputFits graph widths at from parts given.output × (class_of given.state ≡ class_of state)
-what_is_given_fits graph widths at from parts state pick given verified are fitting beside there e =
-    let right = goes_right graph widths at from parts state pick verified are fitting beside there in
-    let same : right.given ≡ given = some_is right.given given (sym right.runs ∙ e) in
-    subst (λ (g : Processed). OutputFits graph widths at from parts g.output × (class_of g.state ≡ class_of state)) same (right.fits, right.class)

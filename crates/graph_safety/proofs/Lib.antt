@@ -14,4 +14,5 @@ pub mod Tasks
 pub mod Outputs
 pub mod Starts
 pub mod Joins
+pub mod Safety
 pub mod Small

@@ -1,6 +1,6 @@
 -- What a task gives at its end fits its receiver.
-use Rattle.std.proofs.Common.{◌≡◌, ◌≢◌, refl, sym, ap, subst, ◌∙◌, ℕ, ℤ, zero, suc, ◌<◌, ◌≤◌, arith, ◌%◌, mod-lt, Bool, true, false, cond, ◌&&◌, ◌==◌, List, [], ◌∷◌, map, length, drop, Option, Some, None, IsTrue, slice_get}
-use Rattle.std.proofs.lemmas.Bool.{false≢true, eq-eqb}
+use Rattle.std.proofs.Common.{◌≡◌, ◌≢◌, refl, sym, ap, subst, ◌∙◌, ℕ, ℤ, ◌<◌, ◌≤◌, arith, ◌%◌, mod-lt, Bool, true, false, cond, ◌&&◌, List, [], ◌∷◌, map, drop, Option, Some, None, slice_get}
+use Rattle.std.proofs.lemmas.Bool.{eq-eqb}
 use Rattle.sdg_base.specs.Limits.{turns_at_start}
 use Rattle.sdg_base.specs.declared.val.Val.{Val}
 use Rattle.sdg_base.specs.declared.val.Val.TheVariants as val
@@ -25,18 +25,17 @@ use Rattle.flat_code.specs.declared.graph.Instr.{Instr}
 use Rattle.flat_code.specs.declared.graph.Instr.TheVariants as instr
 use Rattle.flat_code.specs.Types.{result_by, same_types}
 use Rattle.flat_code.specs.Machine.{Frame, Ending, Returned, Stopped, CutTo, PartFor, Ran, calls_of, part_value}
-use Rattle.flat_code.specs.Items.{Output, Send, Broadcast, Part, Result, Wait, Processed, Gives, Visited, Sender, sender, carried, field_number, width_of, sent_for, sent, part_of, parted, first_part, join_of, method_of, join_number, part_for_join, stopped, ended, after_run, done}
-use Rattle.flat_code.specs.Ways.{IsIn, Reaches, IsNeeded, NeededHere, variables_of}
-use Rattle.flat_code.specs.Fits.{is_type, has_types, brought, is_brought, brings, is_instance, takes, takes_at, is_field, is_key_of, no_key, joining, keyed_work, local_work, visiting, fits}
-use Rattle.flat_code.specs.Verified.{IsVerified, IsTask, IsMethod, HasCode, HasTask, IsCutKind, IsPartKind, ReachesCode, HasPart, IsOfTask, StandsAfter, IsRightTask, StandsRight, IsOf, Stack, on_top, types_after, cut_type, cut_to_kind, part_type, only_type}
-use Rattle.graph_safety.specs.Safe.{AreWidths, IsWidth, call_of, turns_in, turns_of, method_for, IsNoVisit, IsFieldOf, IsCell, IsSent, IsBroadcast, IsForJoin, IsPartOf, HasType, result_of, IsDone, IsResult, OutputFits}
+use Rattle.flat_code.specs.Items.{Send, Broadcast, Part, Gives, Visited, Sender, sender, carried, field_number, width_of, sent_for, sent, part_of, parted, first_part, join_of, method_of, join_number, part_for_join, stopped, ended, after_run, done}
+use Rattle.flat_code.specs.Ways.{IsIn, IsNeeded, NeededHere, variables_of}
+use Rattle.flat_code.specs.Fits.{is_type, brought, is_brought, brings, is_instance, takes, takes_at, is_field, is_key_of, no_key, fits}
+use Rattle.flat_code.specs.Verified.{IsVerified, IsTask, HasCode, IsCutKind, IsPartKind, HasPart, IsOfTask, StandsAfter, StandsRight, Stack, on_top, types_after, cut_type, cut_to_kind, part_type, only_type}
+use Rattle.graph_safety.specs.Safe.{AreWidths, call_of, turns_of, method_for, IsNoVisit, IsForJoin, HasType, result_of, OutputFits}
 use Rattle.graph_safety.proofs.Values.{is_same, same_are}
 use Rattle.graph_safety.proofs.Lists.{none_some, some_is, and_true}
-use Rattle.graph_safety.proofs.Stacks.{on_top_is}
 use Rattle.graph_safety.proofs.Frames.{Holds, HasNoValue, IsReturn}
-use Rattle.graph_safety.proofs.Carried.{IsOne, Carries, carries, ones_at}
-use Rattle.graph_safety.proofs.Runs.{FrameFits, EndsRight, RanRight, RunsRight}
-use Rattle.graph_safety.proofs.Items.{taken, is_of_field, Numbered, numbered, width_is, slot_within, instance_is}
+use Rattle.graph_safety.proofs.Carried.{Carries, carries, ones_at}
+use Rattle.graph_safety.proofs.Runs.{FrameFits, EndsRight, RunsRight}
+use Rattle.graph_safety.proofs.Items.{taken, is_of_field, numbered, width_is, slot_within, instance_is}
 use Rattle.graph_safety.proofs.Tasks.{TaskFits, reaches_code, of_task, on}
 
 -- the visit that a task runs for is this one, or none

@@ -1,5 +1,5 @@
 -- A run of typed code from a place where a task or a method begins comes to an end that fits, before its steps are out.
-use Rattle.std.proofs.Common.{◌≡◌, ◌≢◌, refl, sym, ap, subst, ◌∙◌, ℕ, ℤ, zero, suc, ◌*◌, ◌<◌, ◌≤◌, arith, Bool, true, false, List, [], ◌∷◌, map, length, Option, Some, None, slice_get, inl, inr, ◌⊎◌}
+use Rattle.std.proofs.Common.{◌≡◌, ◌≢◌, refl, sym, ap, subst, ◌∙◌, ℕ, ℤ, zero, suc, ◌<◌, ◌≤◌, arith, Bool, true, false, List, [], ◌∷◌, map, length, Option, Some, None, slice_get, inl, inr, ◌⊎◌}
 use Rattle.std.proofs.lemmas.Bool.{false≢true}
 use Rattle.sdg_base.specs.declared.val.Val.{Val}
 use Rattle.sdg_base.specs.declared.val.Outcome.{Outcome}
@@ -18,15 +18,15 @@ use Rattle.flat_code.specs.declared.graph.Instr.TheVariants as instr
 use Rattle.flat_code.specs.Types.{result_by, field_named, signature_in, signature_at}
 use Rattle.flat_code.specs.Machine as machine
 use Rattle.flat_code.specs.Machine.{Frame, Calls, Ending, Returned, Stopped, CutTo, PartFor, Performed, Goes, Accesses, Ends, Ran, Running, perform, perform_on, run, run_within, most_steps, after_access, part_value}
-use Rattle.flat_code.specs.Ways.{IsIn, IsFirst, next_in_task, writes, reads, Reaches, ReachesNext, IsFree, One, IsNeeded, NeededHere, NeededLater}
-use Rattle.flat_code.specs.Verified.{IsVerified, IsMethod, HasCode, Stack, Begins, IsTypedAt, SpendsBefore, IsBehindTurn, IsJumpTo, on_top, types_after}
+use Rattle.flat_code.specs.Ways.{IsIn, IsFirst, next_in_task, writes, Reaches, ReachesNext, IsFree, One, IsNeeded, NeededHere, NeededLater}
+use Rattle.flat_code.specs.Verified.{IsVerified, IsMethod, HasCode, Stack, Begins, IsTypedAt, IsBehindTurn, IsJumpTo, on_top}
 use Rattle.graph_safety.specs.Safe.{IsStateOf}
 use Rattle.graph_safety.proofs.Lists.{none_some, some_is, is_some_or_not, get_within}
 use Rattle.graph_safety.proofs.States.{OutcomeHas, Answers, call_answers, call_keeps}
 use Rattle.graph_safety.proofs.Frames.{Holds, HasNoValue, CallsFit, setting_of, Allowed, is_turn, IsReturn, frame, StepTo, AccessFits, EndFits, StepFits}
 use Rattle.graph_safety.proofs.Steps.{pushed_types}
 use Rattle.graph_safety.proofs.Instructions.{step}
-use Rattle.graph_safety.proofs.Ways.{Among, among, reads_needed, next_is, comes, free_more, among_or_not, Suffices, suffices_at_first, suffices_next, suffices_spent, suffices_some}
+use Rattle.graph_safety.proofs.Ways.{Among, reads_needed, next_is, comes, free_more, Suffices, suffices_at_first, suffices_next, suffices_spent, suffices_some}
 
 -- what a run of a method stands on, from where it begins, with the variables that were carried to it and its turns
 pub record Standing (graph : Graph) (n : ℕ) (m : GraphMethod) (calls : Calls) (field : Option (List ℕ)) (key : Option ℤ) (gathered : List Val) (start most : ℕ) : Type 0 where

@@ -1,19 +1,17 @@
 -- The small graph is verified.
-use Rattle.std.proofs.Common.{◌≡◌, ◌≢◌, refl, sym, ap, subst, ◌∙◌, ℕ, zero, suc, ◌+◌, ◌<◌, ◌≤◌, arith, Bool, true, false, List, [], ◌∷◌, map, length, All, Option, Some, None, codes, slice_get, slice_index_or}
+use Rattle.std.proofs.Common.{◌≡◌, ◌≢◌, refl, sym, ap, subst, ◌∙◌, ℕ, zero, suc, ◌<◌, ◌≤◌, arith, Bool, true, false, List, [], ◌∷◌, length, All, Option, Some, None, codes, slice_get}
 use Rattle.std.specs.List.{AllPass}
 use Rattle.std.proofs.lemmas.Bool.{false≢true}
 use Rattle.sdg_base.specs.declared.value_type.ValueType.TheVariants as type
 use Rattle.state_classes.specs.declared.method.Method.TheVariants as method
-use Rattle.flat_code.specs.declared.graph.FieldKind.TheVariants as field_kind
 use Rattle.flat_code.specs.declared.graph.GraphMethod.{GraphMethod}
-use Rattle.flat_code.specs.declared.graph.Graph.{Graph}
 use Rattle.flat_code.specs.declared.graph.MethodKind.TheVariants as method_kind
 use Rattle.flat_code.specs.declared.graph.Task.{Task}
 use Rattle.flat_code.specs.declared.graph.TaskKind.TheVariants as kind
 use Rattle.flat_code.specs.declared.graph.Instr.{Instr}
 use Rattle.flat_code.specs.declared.graph.Instr.TheVariants as instr
-use Rattle.flat_code.specs.Ways.{IsIn, IsFirst, next_of, next_in_task, writes, needs, Reaches, ReachesStart, ReachesNext, IsFree, One, More, IsNeeded, NeededHere, NeededLater}
-use Rattle.flat_code.specs.Verified.{is_word_byte, IsIdentifier, AreNames, AreDistinct, IsMethod, IsTask, HasCode, HasTask, IsCutKind, NamesSomething, StandsAfter, IsOf, IsStart, IsRightTask, HasStart, Stack, IsTypedAt, Begins, TaskBegins, MethodBegins, IsTypedMethod, IsOfBody, IsOfTask, ReachesCode, HasPart, Calls, Direct, Gathering, Through, SpendsBefore, IsJumpTo, IsOnlyBehind, IsBehindTurn, IsBehindAccess, IsVerified}
+use Rattle.flat_code.specs.Ways.{IsIn, IsFirst, next_of, next_in_task, needs, Reaches, ReachesStart, ReachesNext, IsFree, One, More, IsNeeded, NeededHere, NeededLater}
+use Rattle.flat_code.specs.Verified.{is_word_byte, IsIdentifier, AreNames, AreDistinct, IsMethod, IsTask, HasCode, NamesSomething, IsRightTask, HasStart, Stack, IsTypedAt, Begins, TaskBegins, MethodBegins, IsTypedMethod, IsOfBody, IsOfTask, ReachesCode, Calls, Direct, Gathering, Through, SpendsBefore, IsJumpTo, IsBehindTurn, IsVerified}
 use Rattle.graph_safety.specs.Small.{small_field, small_code, small_method, small_start, small_keyed, small_graph}
 use Rattle.graph_safety.proofs.Lists.{none_some, some_is}
 use Rattle.graph_safety.proofs.Ways.{among, only_one}

@@ -1,19 +1,17 @@
 -- What types off a stack say of the values on it.
-use Rattle.std.proofs.Common.{◌≡◌, ◌≢◌, refl, sym, ap, subst, ◌∙◌, ℕ, zero, suc, ◌+◌, ◌<◌, arith, Bool, true, false, cond, ◌&&◌, List, [], ◌∷◌, ◌++◌, map, length, Option, Some, None, slice_get}
+use Rattle.std.proofs.Common.{◌≡◌, ◌≢◌, refl, sym, ap, ◌∙◌, ℕ, zero, suc, ◌+◌, Bool, true, false, cond, List, [], ◌∷◌, ◌++◌, map, length, Option, Some, None}
 use Rattle.std.specs.List.{range_with_len}
-use Rattle.std.proofs.lemmas.Bool.{false≢true}
 use Rattle.sdg_base.specs.declared.val.Val.{Val}
-use Rattle.sdg_base.specs.declared.val.Val.TheVariants as val
 use Rattle.sdg_base.specs.declared.value_type.ValueType.{ValueType}
 use Rattle.sdg_base.specs.declared.value_type.ValueType.TheVariants as type
 use Rattle.sdg_base.specs.Types.{type_of}
 use Rattle.flat_code.specs.declared.graph.GraphMethod.{GraphMethod}
 use Rattle.flat_code.specs.declared.graph.VarType.{VarType}
 use Rattle.flat_code.specs.declared.graph.VarType.TheVariants as var
-use Rattle.flat_code.specs.Types.{same_type, same_types, type_by, type_of_variable}
+use Rattle.flat_code.specs.Types.{same_type, type_by, type_of_variable}
 use Rattle.flat_code.specs.Machine.{arguments, with_last}
 use Rattle.flat_code.specs.Fits.{is_type, has_types}
-use Rattle.flat_code.specs.Verified.{Stack, off, without, on_top, with_result, pushing, if_type, if_members, types_of_variables, with_first_type}
+use Rattle.flat_code.specs.Verified.{Stack, off, without, on_top, pushing, types_of_variables, with_first_type}
 use Rattle.graph_safety.proofs.Values.{same_is, is_same}
 use Rattle.graph_safety.proofs.Lists.{none_some, some_is, and_true}
 

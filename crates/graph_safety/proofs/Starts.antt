@@ -1,19 +1,15 @@
 -- Items that start a call, or work at a slot or an instance, go right.
-use Rattle.std.proofs.Common.{◌≡◌, ◌≢◌, refl, sym, ap, subst, ◌∙◌, ℕ, ℤ, zero, suc, ◌+◌, ◌<◌, ◌≤◌, arith, Bool, true, false, cond, ◌&&◌, nat_lt, List, [], ◌∷◌, map, length, Option, Some, None, IsTrue, slice_get, inl, inr, ◌⊎◌}
+use Rattle.std.proofs.Common.{◌≡◌, refl, sym, ap, subst, ◌∙◌, ℕ, ℤ, zero, suc, ◌+◌, ◌<◌, arith, true, List, [], ◌∷◌, Option, Some, None, slice_get, inl, inr}
 use Rattle.std.specs.List.{range_with_len}
-use Rattle.std.proofs.lemmas.Bool.{false≢true, ltb-true}
+use Rattle.std.proofs.lemmas.Bool.{false≢true}
 use Rattle.sdg_base.specs.Limits.{turns_at_start}
 use Rattle.sdg_base.specs.declared.val.Val.{Val}
 use Rattle.sdg_base.specs.declared.val.Val.TheVariants as val
-use Rattle.sdg_base.specs.declared.val.Outcome.{Outcome}
-use Rattle.sdg_base.specs.declared.val.Outcome.TheVariants as outcome
-use Rattle.sdg_base.specs.declared.value_type.ValueType.{ValueType}
 use Rattle.sdg_base.specs.declared.port.Port.{Port}
 use Rattle.sdg_base.specs.declared.port.Port.TheVariants as port
 use Rattle.sdg_base.specs.declared.item.Item.{Item}
 use Rattle.sdg_base.specs.declared.item.Item.TheVariants as item
-use Rattle.sdg_base.specs.Types.{type_of}
-use Rattle.state_classes.specs.States.{State, class_of}
+use Rattle.state_classes.specs.States.{State}
 use Rattle.flat_code.specs.declared.graph.GraphMethod.{GraphMethod}
 use Rattle.flat_code.specs.declared.graph.MethodKind.{MethodKind}
 use Rattle.flat_code.specs.declared.graph.MethodKind.TheVariants as method_kind
@@ -21,27 +17,23 @@ use Rattle.flat_code.specs.declared.graph.Graph.{Graph}
 use Rattle.flat_code.specs.declared.graph.Task.{Task}
 use Rattle.flat_code.specs.declared.graph.TaskKind.{TaskKind}
 use Rattle.flat_code.specs.declared.graph.TaskKind.TheVariants as kind
-use Rattle.flat_code.specs.declared.graph.VariableType.{VariableType}
-use Rattle.flat_code.specs.declared.graph.VariableType.TheVariants.{One, Collection}
-use Rattle.flat_code.specs.Types.{type_by, in_variable, member_type}
 use Rattle.flat_code.specs.Machine.{calls_of, first_variables, run}
-use Rattle.flat_code.specs.Items.{Processed, Gives, Wait, Visited, Sender, sender, visit, started, run_in, run_from, carried_variables, method_of, field_number, width_of, with_part, instance_of, Gathered, AllValues, FirstOther, gathered_of, gathered_in, with_value, joined_with, joined_from, joined, after_run, done, runs}
+use Rattle.flat_code.specs.Items.{Visited, sender, visit, started, run_in, run_from, carried_variables, method_of, width_of, after_run}
 use Rattle.flat_code.specs.Ways.{IsIn}
-use Rattle.flat_code.specs.Fits.{parameters, has_types, is_type, is_entry, starts, brought, is_brought, brings, takes, takes_at, is_field, is_instance, is_key_of, no_key, joining, keyed_work, local_work, visiting, fits}
-use Rattle.flat_code.specs.Verified.{IsVerified, IsTask, IsMethod, HasStart, IsStart, StandsRight, TakesBrought}
-use Rattle.graph_safety.specs.Safe.{AreWidths, IsStateAt, IsStateOf, AreOfOneJoin, IsBeside, ArePartsBeside, call_of, turns_of, turns_of_first, method_for, result_of, HasType, OutputFits, GoesRight, VerifiedGraphsNeverGoWrong}
-use Rattle.graph_safety.proofs.Values.{same_is}
+use Rattle.flat_code.specs.Fits.{parameters, has_types, is_entry, starts, takes, takes_at, is_field, is_instance, is_key_of, no_key, keyed_work, local_work, visiting}
+use Rattle.flat_code.specs.Verified.{IsVerified, IsMethod, HasStart, IsStart, StandsRight, TakesBrought}
+use Rattle.graph_safety.specs.Safe.{AreWidths, IsStateOf}
 use Rattle.graph_safety.proofs.Lists.{none_some, some_is, both_true}
-use Rattle.graph_safety.proofs.Frames.{AreOf, HoldsIn, Holds, HasNoValue, ArgsFit, HasKey, setting_of, frame}
+use Rattle.graph_safety.proofs.Frames.{ArgsFit, HasKey, setting_of, frame}
 use Rattle.graph_safety.proofs.Instructions.{first_hold, types_as_many}
 use Rattle.graph_safety.proofs.Stacks.{range_length}
-use Rattle.graph_safety.proofs.Carried.{IsOne, ones, carried_room, carried_hold}
+use Rattle.graph_safety.proofs.Carried.{ones, carried_room, carried_hold}
 use Rattle.graph_safety.proofs.Calls.{first_variables_as_many}
 use Rattle.graph_safety.proofs.Runs.{IsStateFor}
 use Rattle.graph_safety.proofs.Ways.{Among, among}
 use Rattle.graph_safety.proofs.Items.{Taking, taking, field_is, state_for}
 use Rattle.graph_safety.proofs.Tasks.{TaskFits, task_runs}
-use Rattle.graph_safety.proofs.Outputs.{IsVisitOf, IsFor, Starts, GivesRight, after_right, no_value_has}
+use Rattle.graph_safety.proofs.Outputs.{Starts, GivesRight, after_right}
 
 -- ---- a task with an item's values
 
@@ -74,9 +66,6 @@ module _ (graph : Graph) (verified : IsVerified graph) (widths : List ℕ) (are 
   method_is k j turns vs it = ap (λ (o : Option Task). method_of graph o) it.is ∙ it.is_method
 
   -- ---- slots and instances
-
-  kinds_differ : (i j : TaskKind) → i ≡ j → (i ≡ kind.Visit → ⊥) → j ≢ kind.Visit
-  kinds_differ i j e h k = h (e ∙ k)
 
   has_key : (n width : ℕ) (key : Option ℤ) → is_key_of n width key ≡ true → HasKey key
   has_key n width None e = false≢true e

@@ -1,45 +1,37 @@
 -- Each instruction of typed code does something, and what it leaves is of the types that come after it.
-use Rattle.std.proofs.Common.{◌≡◌, ◌≢◌, refl, sym, ap, ap₂, subst, ◌∙◌, ℕ, ℤ, zero, suc, pos, negsuc, ◌+◌, ◌<◌, ◌≤◌, arith, Bool, true, false, cond, List, [], ◌∷◌, ◌++◌, map, length, replicate, Option, Some, None, Result, Ok, Err, slice_get, slice_set, nat_lt}
-use Rattle.std.specs.Str.{bytes_eq}
-use Rattle.std.specs.List.{range_with_len}
+use Rattle.std.proofs.Common.{◌≡◌, ◌≢◌, refl, sym, ap, ap₂, subst, ◌∙◌, ℕ, ℤ, zero, suc, pos, negsuc, ◌<◌, arith, Bool, true, false, cond, List, [], ◌∷◌, map, length, replicate, Option, Some, None, Result, Ok, Err, slice_get, slice_set, nat_lt}
 use Rattle.std.proofs.lemmas.Bool.{false≢true, lt-ltb}
 use Rattle.sdg_base.specs.declared.operator.BinOp.{BinOp}
 use Rattle.sdg_base.specs.declared.operator.BinOp.TheVariants as bin
 use Rattle.sdg_base.specs.declared.operator.UnOp.{UnOp}
 use Rattle.sdg_base.specs.declared.operator.UnOp.TheVariants as un
 use Rattle.sdg_base.specs.declared.val.Exn.{Exn}
-use Rattle.sdg_base.specs.declared.val.Exn.TheVariants as exn
 use Rattle.sdg_base.specs.declared.val.Num.{Num}
 use Rattle.sdg_base.specs.declared.val.Num.TheVariants as num
 use Rattle.sdg_base.specs.declared.val.Val.{Val}
 use Rattle.sdg_base.specs.declared.val.Val.TheVariants as val
-use Rattle.sdg_base.specs.declared.val.Outcome.TheVariants as outcome
 use Rattle.sdg_base.specs.declared.value_type.ValueType.{ValueType}
 use Rattle.sdg_base.specs.declared.value_type.ValueType.TheVariants as type
-use Rattle.sdg_base.specs.Operations.{operation, unary_operation, converted}
-use Rattle.sdg_base.specs.Signatures.{Signature}
+use Rattle.sdg_base.specs.Operations.{operation, unary_operation}
 use Rattle.sdg_base.specs.Types.{type_of, binary_type, unary_type, arithmetic_type, shift_type, order_type, equality_type, bitwise_type, condition_type, number_type, boolean_type}
-use Rattle.state_classes.specs.declared.method.Method.{Method}
 use Rattle.flat_code.specs.declared.graph.Graph.{Graph}
 use Rattle.flat_code.specs.declared.graph.GraphMethod.{GraphMethod}
-use Rattle.flat_code.specs.declared.graph.MethodKind.TheVariants as method_kind
 use Rattle.flat_code.specs.declared.graph.Instr.{Instr}
 use Rattle.flat_code.specs.declared.graph.Instr.TheVariants as instr
 use Rattle.flat_code.specs.declared.graph.OperandType.{OperandType}
 use Rattle.flat_code.specs.declared.graph.VarType.{VarType}
-use Rattle.flat_code.specs.declared.graph.VarType.TheVariants as var
 use Rattle.flat_code.specs.declared.graph.VariableType.{VariableType}
 use Rattle.flat_code.specs.declared.graph.VariableType.TheVariants.{One, Collection}
-use Rattle.flat_code.specs.Types.{type_by, result_by, one_type, member_type, in_variable, type_of_variable, members_of_variable, operand_type, right_type, same_type, same_types, signature_at}
+use Rattle.flat_code.specs.Types.{type_by, one_type, member_type, in_variable, type_of_variable, operand_type, right_type, same_type}
 use Rattle.flat_code.specs.Machine as machine
 use Rattle.flat_code.specs.Machine.{Frame, Calls, Called, Gave, Failed, Ending, Returned, Stopped, CutTo, PartFor, Performed, Goes, Accesses, Ends, perform_on, a_value}
-use Rattle.flat_code.specs.Ways.{IsIn, IsFirst, IsLater, next_in_task, writes, reads}
-use Rattle.flat_code.specs.Fits.{is_type, parameters}
-use Rattle.flat_code.specs.Verified.{Stack, IsMethod, HasMethod, HasAccess, NamesSomething, SpendsBefore, types_after, off, without, on_top, with_result, pushing, if_type, if_members, stored_type, operated_type, cast_type, types_of_variables, without_all, called_type, merged_type, accessed_type, only_type, returned_type, nothing_returned}
-use Rattle.graph_safety.proofs.Values.{same_is, is_same, same_refl, are_same, same_are, operation_has, unary_has, AnswerHas, ValueHas}
+use Rattle.flat_code.specs.Ways.{IsIn, IsFirst, IsLater, next_in_task, writes}
+use Rattle.flat_code.specs.Fits.{is_type}
+use Rattle.flat_code.specs.Verified.{Stack, types_after, without, on_top, with_result, pushing, if_type, if_members, stored_type, operated_type}
+use Rattle.graph_safety.proofs.Values.{same_is, is_same, operation_has, unary_has, AnswerHas, ValueHas}
 use Rattle.graph_safety.proofs.Lists.{none_some, some_is, length_set}
-use Rattle.graph_safety.proofs.Stacks.{type_by_value, on_top_is, on_top_by, one_off, two_off, Pushed, pushing_is, one_of, Taken, taken_of, two}
-use Rattle.graph_safety.proofs.Frames.{AreOf, HoldsIn, Holds, value_holds, is_declared, set_holds, set_keeps, typed_holds, HasNoValue, ArgsFit, CalledFits, CallsFit, setting_of, HasKey, Allowed, is_turn, IsReturn, frame, StepTo, AccessFits, EndFits, StepFits}
+use Rattle.graph_safety.proofs.Stacks.{type_by_value, on_top_is, on_top_by, one_off, two_off, pushing_is}
+use Rattle.graph_safety.proofs.Frames.{AreOf, HoldsIn, Holds, value_holds, is_declared, set_holds, set_keeps, setting_of, is_turn, frame, StepFits}
 
 -- ---- operators give no void
 

@@ -1,5 +1,5 @@
 -- Ways through code: what comes next, ways that spend no turn, and how many instructions such a way may still pass.
-use Rattle.std.proofs.Common.{◌≡◌, ◌≢◌, refl, sym, ap, subst, ◌∙◌, ℕ, zero, suc, ◌+◌, ◌*◌, ◌<◌, ◌≤◌, arith, le_trans, mul-le-mul_right, suc-mul, List, [], ◌∷◌, length, Option, Some, None, slice_get, inl, inr, ◌⊎◌}
+use Rattle.std.proofs.Common.{◌≡◌, ◌≢◌, refl, sym, subst, ℕ, zero, suc, ◌+◌, ◌*◌, ◌<◌, ◌≤◌, arith, mul-le-mul_right, suc-mul, List, [], ◌∷◌, Some, slice_get, inl, inr, ◌⊎◌}
 use Rattle.flat_code.specs.declared.graph.Instr.{Instr}
 use Rattle.flat_code.specs.declared.graph.Instr.TheVariants as instr
 use Rattle.flat_code.specs.declared.graph.Task.{Task}

@@ -1,5 +1,5 @@
 -- A small graph: one field, and an entry method with one keyed access to it.
-use Rattle.std.specs.Prelude.{ℕ, List, [], ◌∷◌, Some, None, codes}
+use Rattle.std.specs.Prelude.{List, [], ◌∷◌, Some, None, codes}
 use Rattle.sdg_base.specs.declared.store.ClassName.TheVariants as class_name
 use Rattle.state_classes.specs.declared.method.Method.TheVariants as method
 use Rattle.flat_code.specs.declared.graph.FieldKind.TheVariants as field_kind

@@ -1,4 +1,4 @@
-use Rattle.graph_safety.proofs.Joins.{goes_right}
+use Rattle.graph_safety.proofs.Safety.{goes_right}
 use Rattle.graph_safety.proofs.Small.{small_is_verified}
 use Rattle.graph_safety.proofs.law.verified_graphs_never_go_wrong.Goals as goal
 
