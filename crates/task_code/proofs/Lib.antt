@@ -1,0 +1,4 @@
+pub mod Taken
+pub mod Unset
+pub mod Carried
+pub mod Vars

@@ -1,0 +1,14 @@
+//! The engine: what an item does at a port, by the flat code of its task.
+#![tactic(auto)]
+
+mod collections;
+mod ends;
+mod engine;
+mod frame;
+mod perform;
+mod signatures;
+mod stack;
+mod step;
+mod values;
+mod variables;
+mod vectors;
