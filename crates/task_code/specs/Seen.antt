@@ -1,12 +1,19 @@
 -- What the engine's frames, steps and ends stand for.
 use Rattle.std.specs.Prelude.{◌≡◌, ℕ, suc, List, [], ◌∷◌, Option, Some, None, IsSome}
 use Rattle.sdg_base.specs.declared.val.Val.TheVariants as val
+use Rattle.sdg_base.specs.declared.val.Val.{Val}
+use Rattle.state_classes.specs.States.{State}
+use Rattle.flat_code.specs.declared.graph.GraphMethod.{GraphMethod}
 use Rattle.flat_code.specs.declared.graph.Instr.{Instr}
 use Rattle.flat_code.specs.Machine as machine
 use Rattle.task_code.specs.declared.engine.Engine.{Engine}
 use Rattle.task_code.specs.declared.frame.Frame.{Frame}
 use Rattle.task_code.specs.declared.step.Ending.{Ending}
 use Rattle.task_code.specs.declared.step.Ending.TheVariants as ending
+use Rattle.task_code.specs.declared.step.Called.{Called}
+use Rattle.task_code.specs.declared.step.Called.TheVariants as called
+use Rattle.task_code.specs.declared.step.Move.{Move}
+use Rattle.task_code.specs.declared.step.Move.TheVariants as move
 use Rattle.task_code.specs.declared.step.Step.{Step}
 use Rattle.task_code.specs.declared.step.Step.TheVariants as step
 
@@ -48,14 +55,14 @@ abbrev pub seen : Option machine.Performed → Option machine.Performed
 seen None = None
 seen (Some p) = Some (seen_performed p)
 
--- what a step leads to, from a frame
-abbrev pub leads : machine.Setting → Step → Frame → Option machine.Performed
-leads s step.Next f = Some (machine.Goes (frame_at (suc f.at) f))
-leads s (step.Jump to) f = Some (machine.Goes (frame_at to f))
-leads s (step.Call m args) f = machine.after_call (s.calls m args.items [] f.turns) f.stack (frame_of f)
-leads s (step.Merge m) f = machine.after_call (s.calls m (val.Unit ∷ []) s.gathered f.turns) f.stack (frame_of f)
-leads s (step.Access m args) f = Some (machine.Accesses m args (frame_at (suc f.at) f))
-leads s (step.End e) f = Some (machine.Ends (ending_of e) (frame_of f))
+-- what a step leads to, from a frame at an instruction
+abbrev pub leads : machine.Setting → ℕ → Step → Frame → Option machine.Performed
+leads s at step.Next f = Some (machine.Goes (frame_at (suc at) f))
+leads s at (step.Jump to) f = Some (machine.Goes (frame_at to f))
+leads s at (step.Call m args) f = machine.after_call (s.calls m args.items [] f.turns) f.stack (frame_at at f)
+leads s at (step.Merge m) f = machine.after_call (s.calls m (val.Unit ∷ []) s.gathered f.turns) f.stack (frame_at at f)
+leads s at (step.Access m args) f = Some (machine.Accesses m args (frame_at (suc at) f))
+leads s at (step.End e) f = Some (machine.Ends (ending_of e) (frame_at at f))
 
 -- an instruction may run
 abbrev pub Can : Engine → Instr → Frame → Type 0
@@ -63,4 +70,41 @@ Can e i f = IsSome (machine.perform_on (setting_of e) i f.stack (frame_of f))
 
 -- an instruction leads from a frame to another one by a step
 abbrev pub Does : Engine → Instr → Frame → Frame → Step → Type 0
-Does e i old new to = seen (machine.perform_on (setting_of e) i old.stack (frame_of old)) ≡ seen (leads (setting_of e) to new)
+Does e i old new to = seen (machine.perform_on (setting_of e) i old.stack (frame_of old)) ≡ seen (leads (setting_of e) old.at to new)
+
+-- ---- calls and runs
+
+abbrev pub called_of : Called → machine.Called
+called_of (called.Gave v turns) = machine.Gave v turns
+called_of (called.Failed how) = machine.Failed how
+
+-- what an instruction did, once the methods that it calls have run: the frame stands at what comes next
+abbrev pub moves : Move → Frame → Option machine.Performed
+moves move.Go f = Some (machine.Goes (frame_of f))
+moves (move.Access m args) f = Some (machine.Accesses m args (frame_of f))
+moves (move.End e) f = Some (machine.Ends (ending_of e) (frame_of f))
+
+-- an instruction moves from a frame to another one
+abbrev pub Moves : Engine → Instr → Frame → Frame → Move → Type 0
+Moves e i old new to = seen (machine.perform_on (setting_of e) i old.stack (frame_of old)) ≡ seen (moves to new)
+
+-- how a run ended, as far as it is looked at
+abbrev pub seen_ran : Option machine.Ran → Option machine.Ran
+seen_ran None = None
+seen_ran (Some r) = Some (record { ending = r.ending; frame = seen_frame r.ending r.frame; state = r.state })
+
+-- a run ended so, and left this
+abbrev pub ends_so : Ending → Frame → State → Option machine.Ran
+ends_so e f state = Some (record { ending = ending_of e; frame = seen_frame (ending_of e) (frame_of f); state = state })
+
+-- a run of code from a frame
+abbrev pub running : Engine → List Instr → Frame → State → Option machine.Ran
+running e code f state = machine.run (setting_of e) code (frame_of f) state
+
+-- what a method gives
+abbrev pub calling : Engine → ℕ → List Val → List Val → ℕ → Option machine.Called
+calling e m args gathered turns = machine.calls_within e.depth e.graph.now.fields e.graph.now.methods m args gathered turns
+
+-- the same of a method whose calls are an engine's
+abbrev pub method_given : Engine → GraphMethod → List Val → ℕ → Option machine.Called
+method_given e m args turns = machine.given_by (machine.run (setting_of e) m.code (machine.first_frame m args turns) machine.no_state)

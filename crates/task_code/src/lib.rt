@@ -1,6 +1,7 @@
 //! The engine: what an item does at a port, by the flat code of its task.
 #![tactic(auto)]
 
+mod calls;
 mod collections;
 mod ends;
 mod engine;

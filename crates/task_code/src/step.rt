@@ -22,3 +22,17 @@ pub enum Step {
     Access(Method, Vals),
     End(Ending),
 }
+
+/// What an instruction did, once the methods that it calls have run: it went on, is to access the
+/// state, or ended the run.
+pub enum Move {
+    Go,
+    Access(Method, Vals),
+    End(Ending),
+}
+
+/// What a call of a method gave: a value and the turns that are left, or how the whole call ends.
+pub enum Called {
+    Gave(Val, u32),
+    Failed(Outcome),
+}
