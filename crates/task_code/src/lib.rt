@@ -6,10 +6,13 @@ mod collections;
 mod ends;
 mod engine;
 mod frame;
+mod out;
 mod perform;
+mod run;
 mod signatures;
 mod stack;
 mod step;
+
 mod values;
 mod variables;
 mod vectors;
