@@ -5,3 +5,4 @@ pub mod Vars
 pub mod Fuel
 pub mod Calm
 pub mod Calling
+pub mod Outputs

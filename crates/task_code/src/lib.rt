@@ -9,10 +9,11 @@ mod frame;
 mod out;
 mod perform;
 mod run;
+mod sender;
+mod sending;
 mod signatures;
 mod stack;
 mod step;
-
 mod values;
 mod variables;
 mod vectors;

@@ -1,9 +1,9 @@
 //! The fields of a graph by name, and the signatures of their methods.
 
-ghost use Rattle.std.specs.Prelude.{◌≡◌};
+ghost use Rattle.std.specs.Prelude.{◌≡◌, ◌<◌, length, IfSome};
 ghost use Rattle.std.specs.Option.{option_map, option_copied};
 ghost use Rattle.state_classes.specs.Shown.{signature_of};
-ghost use Rattle.flat_code.specs.Types.{field_named, signature_at};
+ghost use Rattle.flat_code.specs.Types.{field_named, number_of, signature_at};
 
 use flat_code::GraphField;
 use state_classes::{Method, Signature, state_method};
@@ -31,5 +31,24 @@ pub fn signature_at(fields: &[GraphField], name: &[u8], method: Method) -> Optio
     match field_named(name, fields) {
         Some(field) => state_method(field.class, method.text().as_bytes()),
         None => None,
+    }
+}
+
+/// The number of the first field of a name.
+pub fn number_of(name: &[u8], fields: &[GraphField]) -> Option<usize>
+    ensures value { result ≡ number_of name.now fields.now }
+    ensures within { IfSome result (λ n. n < length fields.now) }
+{
+    match fields {
+        [] => None,
+        [field, others @ ..] => {
+            if name == field.name.as_slice() {
+                return Some(0);
+            }
+            match number_of(name, others) {
+                Some(number) => Some(number + 1),
+                None => None,
+            }
+        }
     }
 }
