@@ -6,3 +6,4 @@ pub mod Fuel
 pub mod Calm
 pub mod Calling
 pub mod Outputs
+pub mod Gathered

@@ -1,4 +1,4 @@
 pub mod Indices
-pub mod Widths
 pub mod Seen
 pub mod Given
+pub mod Gathering

@@ -6,6 +6,7 @@ mod collections;
 mod ends;
 mod engine;
 mod frame;
+mod joins;
 mod out;
 mod perform;
 mod run;
@@ -14,6 +15,10 @@ mod sending;
 mod signatures;
 mod stack;
 mod step;
+mod tasks;
 mod values;
 mod variables;
 mod vectors;
+
+pub use out::Out;
+pub use tasks::{Parts, run_task};

@@ -1,7 +1,7 @@
 //! Who sends what a task gives.
 
-ghost use Rattle.std.specs.Prelude.{◌≤◌, All, length};
-ghost use Rattle.task_code.specs.Widths.{IsWidth};
+ghost use Rattle.std.specs.Prelude.{◌≤◌, length};
+ghost use Rattle.graph_safety.specs.Safe.{AreWidths};
 
 use flat_code::Graph;
 use sdg_base::Widths;
@@ -27,5 +27,5 @@ pub struct Sender<'g> {
     pub call: u32,
     pub visited: Option<Visited>,
     ghost few_fields: { length graph.now.fields ≤ 64 },
-    ghost widths_fit: { All IsWidth widths.now },
+    ghost widths_fit: { AreWidths graph.now widths.now },
 }

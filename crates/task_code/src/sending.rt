@@ -5,7 +5,7 @@ ghost use Rattle.flat_code.specs.Items.{done, field_number, join_number, parted,
 ghost use Rattle.flat_code.specs.Items as items;
 ghost use Rattle.flat_code.specs.declared.graph.TaskKind.TheVariants as kind;
 ghost use Rattle.task_code.specs.Given.{CanGive, Gives, sender_of};
-ghost use Rattle.task_code.specs.Widths.{IsWidth};
+ghost use Rattle.graph_safety.specs.Safe.{IsWidth};
 ghost use Rattle.task_code.specs.Seen.{ending_of, frame_of};
 
 use crate::frame::Frame;
@@ -34,7 +34,7 @@ fn first_part(code: &[Instr], start: usize) -> Option<u32>
 
 impl Sender<'_> {
     /// The end of the call.
-    fn done(&self, how: Outcome) -> Out
+    pub fn done(&self, how: Outcome) -> Out
         ensures { Gives (done (sender_of self.now) how) result }
     {
         Out::Result(Item::Done {
