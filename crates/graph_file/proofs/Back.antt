@@ -1,8 +1,7 @@
 -- What a writable graph is written as has the form of a file, and is that graph.
-use Rattle.std.proofs.Common.{◌≡◌, ◌<◌, ◌≤◌, ◌^◌, ℕ, suc, ℤ, pos, negsuc, List, [], ◌∷◌, map, Bool, true, false, Option, Some, None, Ok, refl, sym, ap, arith, lt-ltb, le-ltb}
-use Rattle.std.specs.Prelude.{All, codes, is_some}
+use Rattle.std.proofs.Common.{◌≡◌, ◌<◌, ◌≤◌, ◌^◌, ℕ, suc, ℤ, pos, negsuc, List, [], ◌∷◌, map, Option, Some, None, Ok, refl, sym, ap, arith, lt-ltb, le-ltb}
+use Rattle.std.specs.Prelude.{All, is_some}
 use Rattle.std.specs.Str.{IsUtf8}
-use Rattle.std.specs.Str.Lossy.{utf8_lossy}
 use Rattle.std.proofs.lemmas.Str.{utf8_lossy-IsUtf8}
 use Rattle.std.proofs.lemmas.List.Elements.{All-head, All-tail}
 use Rattle.serde_json.specs.Data.{Data, string, number}
@@ -39,7 +38,7 @@ use Rattle.flat_code.specs.declared.graph.Task.{Task}
 use Rattle.flat_code.specs.declared.graph.Graph.{Graph}
 use Rattle.graph_file.specs.Words.{class_word, classes, field_kind_word, field_kinds, method_kind_word, method_kinds, task_kind_word, task_kinds, operand_word, operand_types, num_word, nums, bin_word, bin_ops, un_word, un_ops, methods, variable_word, variable_types, result_word, result_types}
 use Rattle.graph_file.specs.Written.{name_data, number_data, list_data, field_data, instr_data, variable_data, method_data, task_data, graph_data}
-use Rattle.graph_file.specs.Found.{Found, ◌>>=◌, under}
+use Rattle.graph_file.specs.Found.{Found}
 use Rattle.graph_file.specs.Forms.{name_form, word_of, number_form, int_form, long_form, items_form, list_form, field_form, instr_form, variable_form, method_form, has_field, task_form, graph_form}
 use Rattle.graph_file.specs.Writable.{FitsBits, FitsSignedBits, IsFlatBin, IsFlatUn, IsWritableInstr, IsWritableMethod, IsNamed, IsWritableTask, IsWritable}
 

@@ -4,3 +4,5 @@ pub mod Others
 pub mod Back
 pub mod Depths
 pub mod Readings
+pub mod Exact
+pub mod Exactness

@@ -1,5 +1,5 @@
 -- Lists are read from their front.
-use Rattle.std.proofs.Common.{◌≡◌, ℕ, suc, List, [], ◌∷◌, ◌++◌, decimal, refl, sym, ap, ◌∙◌, append_assoc, Ok, Err}
+use Rattle.std.proofs.Common.{◌≡◌, ℕ, suc, List, [], ◌∷◌, ◌++◌, decimal, refl, sym, ap, append_assoc, Ok, Err}
 use Rattle.serde_json.specs.Data.{Data, Items, item}
 use Rattle.graph_file.specs.Found.{Found, ◌>>=◌, under}
 use Rattle.graph_file.specs.Forms.{items_form}

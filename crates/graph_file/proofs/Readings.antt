@@ -16,6 +16,9 @@ use Rattle.graph_file.specs.declared.error.GraphError.TheVariants.{NotJson, Memo
 use Rattle.graph_file.specs.declared.fault.Fault.{Fault}
 use Rattle.graph_file.specs.declared.fault.Fault.TheVariants as fault
 use Rattle.graph_file.proofs.Back.{graph_back}
+use Rattle.graph_file.proofs.Depths.{graph_depth}
+use Rattle.graph_file.proofs.Exact.{text_utf8, read_text}
+use Rattle.graph_file.proofs.Exactness.{graph_exact}
 
 json_is : (bytes : List ℕ) (d : Data) → IsUtf8 bytes → read bytes ≡ Some d → json_of bytes ≡ Some d
 json_is bytes d utf8 e = rw (is_utf8-from_IsUtf8 bytes utf8) e
@@ -42,5 +45,10 @@ graph_same bytes g e = rw ((bytes_eq-Decides bytes (graph_text g)).1 e)
 form_back : (bytes : List ℕ) (g : Graph) → IsWritable g → bytes ≡ graph_text g → of_form bytes (graph_form (graph_data g)) ≡ Ok g
 form_back bytes g h e = rw (graph_back g h) (graph_same bytes g e)
 
-pub reading_back : (bytes : List ℕ) (g : Graph) → IsWritable g → IsUtf8 bytes → read bytes ≡ Some (graph_data g) → bytes ≡ graph_text g → reading bytes ≡ Ok g
-reading_back bytes g h utf8 read_as e = reading_of_json bytes (graph_data g) utf8 read_as ∙ form_back bytes g h e
+-- a graph that a file can hold is read of its text
+pub reading-graph_text : (g : Graph) → IsWritable g → reading (graph_text g) ≡ Ok g
+unfolding graph_text
+reading-graph_text g h =
+    let d = graph_data g in
+    let e = graph_exact g h in
+    reading_of_json (graph_text g) d (text_utf8 d e) (read_text d e (graph_depth g)) ∙ form_back (graph_text g) g h refl

@@ -1,5 +1,5 @@
 -- A graph's file has no number but integers.
-use Rattle.std.proofs.Common.{◌≡◌, List, [], ◌∷◌, map, Bool, false, Option, Some, None, ℕ, ℤ, pos, negsuc, refl}
+use Rattle.std.proofs.Common.{◌≡◌, List, [], ◌∷◌, map, false, Option, Some, None, ℕ, ℤ, pos, negsuc, refl}
 use Rattle.serde_json.specs.Data.{Data, Members}
 use Rattle.serde_json.specs.Find.{is_float, of_integer}
 use Rattle.serde_json.specs.View.{items_of}

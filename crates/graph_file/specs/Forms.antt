@@ -1,10 +1,8 @@
 -- The form of a graph file: what each part of its JSON is read as, or the first path where the form fails. An object's keys come before its members, and the members in the order of their keys.
-use Rattle.std.specs.Prelude.{ℕ, ℤ, pos, negsuc, suc, ◌^◌, ◌==◌, ◌&&◌, List, [], ◌∷◌, Bool, true, false, not, nat_lt, int_lt, if◌then◌else◌, Option, Some, None, Ok, Err, is_some, option_and_then, codes, decimal}
-use Rattle.serde_json.specs.Data.{Data, null, boolean, number, string, array, object, Items, no_items, item}
+use Rattle.std.specs.Prelude.{ℕ, ℤ, pos, negsuc, suc, ◌^◌, ◌==◌, List, [], ◌∷◌, Bool, true, false, not, nat_lt, int_lt, if◌then◌else◌, Option, Some, None, Ok, Err, is_some, option_and_then, codes, decimal}
+use Rattle.serde_json.specs.Data.{Data, string, array, object, Items, no_items, item}
 use Rattle.serde_json.specs.Find.{get, as_number, as_bool, as_u64, as_i64}
 use Rattle.serde_json.specs.Events.{members_len}
-use Rattle.sdg_base.specs.declared.operator.BinOp.{BinOp}
-use Rattle.state_classes.specs.declared.method.Method.{Method}
 use Rattle.state_classes.specs.Methods.{method_text}
 use Rattle.flat_code.specs.declared.graph.GraphField.{GraphField}
 use Rattle.flat_code.specs.declared.graph.Instr.{Instr}

@@ -3,7 +3,6 @@ use Rattle.std.specs.Prelude.{ℕ, List, [], ◌∷◌, Option, Some, None, code
 use Rattle.std.specs.Str.{bytes_eq}
 use Rattle.state_classes.specs.declared.method.Method.{Method}
 use Rattle.state_classes.specs.declared.method.Method.TheVariants as method
-use Rattle.state_classes.specs.Methods.{method_text}
 use Rattle.flat_code.specs.declared.graph.VarType.{VarType}
 use Rattle.flat_code.specs.declared.graph.VarType.TheVariants as var
 use Rattle.flat_code.specs.declared.graph.VariableType.{VariableType}

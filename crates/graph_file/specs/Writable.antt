@@ -1,11 +1,10 @@
 -- The graphs that a file can hold: their names are UTF-8, their numbers fit their types, their operators are those of flat code, and exactly the tasks that work on a field name one.
-use Rattle.std.specs.Prelude.{◌≡◌, ◌≢◌, ℕ, ℤ, pos, negsuc, ◌<◌, ◌^◌, ◌-◌, List, All, true, Option, Some, None, is_some}
+use Rattle.std.specs.Prelude.{◌≡◌, ℕ, ℤ, pos, negsuc, ◌<◌, ◌^◌, ◌-◌, List, All, Option, Some, None, is_some}
 use Rattle.std.specs.Str.{IsUtf8}
 use Rattle.sdg_base.specs.declared.operator.BinOp.{BinOp}
 use Rattle.sdg_base.specs.declared.operator.BinOp.TheVariants as bin
 use Rattle.sdg_base.specs.declared.operator.UnOp.{UnOp}
 use Rattle.sdg_base.specs.declared.operator.UnOp.TheVariants as un
-use Rattle.flat_code.specs.declared.graph.GraphField.{GraphField}
 use Rattle.flat_code.specs.declared.graph.Instr.{Instr}
 use Rattle.flat_code.specs.declared.graph.Instr.TheVariants as instr
 use Rattle.flat_code.specs.declared.graph.GraphMethod.{GraphMethod}

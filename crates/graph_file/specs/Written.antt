@@ -1,7 +1,7 @@
 -- What a graph file is: the compact JSON text of one object, with its keys in their order.
 use Rattle.std.specs.Prelude.{ℕ, List, map, Option, Some, None, codes}
 use Rattle.std.specs.Str.Lossy.{utf8_lossy}
-use Rattle.serde_json.specs.Data.{Data, number, unsigned, boolean, string, array, object, Items, item, no_items, Members, member, no_members}
+use Rattle.serde_json.specs.Data.{Data, number, unsigned, boolean, string, array, object, item, no_items, Members, member, no_members}
 use Rattle.serde_json.specs.Find.{of_integer}
 use Rattle.serde_json.specs.View.{items_of}
 use Rattle.serde_json.specs.Written.{compact_text}
@@ -12,7 +12,6 @@ use Rattle.flat_code.specs.declared.graph.Instr.TheVariants as instr
 use Rattle.flat_code.specs.declared.graph.GraphMethod.{GraphMethod}
 use Rattle.flat_code.specs.declared.graph.VariableType.{VariableType}
 use Rattle.flat_code.specs.declared.graph.Task.{Task}
-use Rattle.flat_code.specs.declared.graph.TaskKind.{TaskKind}
 use Rattle.flat_code.specs.declared.graph.Graph.{Graph}
 use Rattle.graph_file.specs.Words.{class_word, field_kind_word, method_kind_word, task_kind_word, operand_word, num_word, bin_word, un_word, variable_word, result_word}
 

@@ -8,6 +8,7 @@ ghost use Rattle.graph_file.specs.Forms.{graph_form};
 ghost use Rattle.graph_file.specs.Reading.{of_graph, of_form, reading, refusal_of};
 ghost use Rattle.serde_json.specs.View.{view};
 ghost use Rattle.graph_file.specs.declared.error.GraphError.TheVariants.{Memory};
+ghost use Rattle.flat_code.specs.declared.graph.Graph.{Graph};
 
 mod error;
 mod fault;
@@ -46,6 +47,8 @@ pub fn write_graph(alloc: Global, graph: &Graph) -> Result<Bytes, AllocError>
 pub fn read_graph(alloc: Global, bytes: &[u8]) -> Result<Graph, GraphError>
     ensures exact { result ≢ Err Memory → result ≡ reading bytes.now }
     ensures spelling { IfOk result (λ graph. bytes.now ≡ graph_text graph) }
+    ensures whole { (graph : Graph) → IsWritable graph → bytes.now ≡ graph_text graph
+        → result ≢ Err Memory → result ≡ Ok graph }
 {
     let value = match Value::from_slice(alloc, bytes) {
         Ok(value) => value,
