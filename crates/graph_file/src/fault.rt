@@ -1,6 +1,6 @@
 //! Why a part of a file could not be read.
 
-ghost use Rattle.std.specs.Prelude.{◌≡◌, [], IfOk};
+ghost use Rattle.std.specs.Prelude.{◌≡◌, [], IfOk, decimal};
 ghost use Rattle.graph_file.specs.Found.{IsUnder, path_under};
 ghost use Rattle.graph_file.specs.declared.fault.Fault.TheVariants as fault;
 
@@ -30,6 +30,16 @@ impl Fault {
         ensures { result ≡ fault.Misfit [] }
     {
         Fault::Misfit(Items::new(alloc))
+    }
+
+    /// The same fault, of the list that holds the faulty part at an index.
+    pub(crate) fn at(self, alloc: Global, index: usize) -> Fault
+        ensures { IsUnder (decimal index) self result }
+    {
+        match format!(in alloc; "{index}") {
+            Ok(step) => self.under(alloc, step.as_str()),
+            Err(_) => Fault::Memory,
+        }
     }
 
     /// The same fault, of the part that holds the faulty one at a key or an index.

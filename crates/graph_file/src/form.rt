@@ -119,9 +119,10 @@ fn items<T: Form + Drop>(alloc: Global, values: &[Value]) -> Result<Items<T>, Fa
 {
     let mut things = Items::new(alloc);
     for value in values {
-        let at = things.len();
-        let step = format!(in alloc; "{at}")?;
-        things.push(part(alloc, value, step.as_str())?)?;
+        match T::read(alloc, value) {
+            Ok(thing) => things.push(thing)?,
+            Err(fault) => return Err(fault.at(alloc, things.len())),
+        }
     }
     Ok(things)
 }
