@@ -7,3 +7,4 @@ pub mod Calm
 pub mod Calling
 pub mod Outputs
 pub mod Gathered
+pub mod Typed

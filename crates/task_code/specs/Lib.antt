@@ -2,3 +2,4 @@ pub mod Indices
 pub mod Seen
 pub mod Given
 pub mod Gathering
+pub mod Taken

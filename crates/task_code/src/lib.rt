@@ -5,6 +5,7 @@ mod calls;
 mod collections;
 mod ends;
 mod engine;
+mod fits;
 mod frame;
 mod joins;
 mod out;
@@ -20,5 +21,6 @@ mod values;
 mod variables;
 mod vectors;
 
+pub use fits::item_fits;
 pub use out::Out;
 pub use tasks::{Parts, run_task};
