@@ -1,6 +1,7 @@
 -- What a writable graph is written as has the form of a file, and is that graph.
 use Rattle.std.proofs.Common.{◌≡◌, ◌<◌, ◌≤◌, ◌^◌, ℕ, suc, ℤ, pos, negsuc, List, [], ◌∷◌, map, Option, Some, None, Ok, refl, sym, ap, arith, lt-ltb, le-ltb}
-use Rattle.std.specs.Prelude.{All, is_some}
+use Rattle.std.specs.Prelude.{All, is_some, FitsSigned}
+use Rattle.std.specs.Int.{w32, w64}
 use Rattle.std.specs.Str.{IsUtf8}
 use Rattle.std.proofs.lemmas.Str.{utf8_lossy-IsUtf8}
 use Rattle.std.proofs.lemmas.List.Elements.{All-head, All-tail}
@@ -40,7 +41,7 @@ use Rattle.graph_file.specs.Words.{class_word, classes, field_kind_word, field_k
 use Rattle.graph_file.specs.Written.{name_data, number_data, list_data, field_data, instr_data, variable_data, method_data, task_data, graph_data}
 use Rattle.graph_file.specs.Found.{Found}
 use Rattle.graph_file.specs.Forms.{name_form, word_of, number_form, int_form, long_form, items_form, list_form, field_form, instr_form, variable_form, method_form, has_field, task_form, graph_form}
-use Rattle.graph_file.specs.Writable.{FitsBits, FitsSignedBits, IsFlatBin, IsFlatUn, IsWritableInstr, IsWritableMethod, IsNamed, IsWritableTask, IsWritable}
+use Rattle.graph_file.specs.Writable.{FitsBits, IsFlatBin, IsFlatUn, IsWritableInstr, IsWritableMethod, IsNamed, IsWritableTask, IsWritable}
 
 -- ---- words
 
@@ -140,11 +141,13 @@ name_back name h = ap Ok (utf8_lossy-IsUtf8 name h)
 number_back : (bits n : ℕ) → FitsBits bits n → number_form bits (number_data n) ≡ Ok n
 number_back bits n h = rw (lt-ltb n (2 ^ bits) h)
 
-long_back : (n : ℤ) → FitsSignedBits 64 n → long_form (number (of_integer n)) ≡ Ok n
-long_back (pos n) h = rw (lt-ltb n (2 ^ 63) h)
+long_back : (n : ℤ) → FitsSigned w64 n → long_form (number (of_integer n)) ≡ Ok n
+long_back (pos n) h =
+    let wide : n < 2 ^ 63 = omega arith in
+    rw (lt-ltb n (2 ^ 63) wide)
 long_back (negsuc n) h = refl
 
-int_back : (n : ℤ) → FitsSignedBits 32 n → int_form (number (of_integer n)) ≡ Ok n
+int_back : (n : ℤ) → FitsSigned w32 n → int_form (number (of_integer n)) ≡ Ok n
 int_back (pos n) h =
     let wide : n < 2 ^ 63 = omega arith in
     let most : n ≤ 2147483647 = omega arith in

@@ -1,6 +1,7 @@
 -- What a writable graph is written as is exact.
 use Rattle.std.proofs.Common.{ℕ, ℤ, pos, negsuc, List, [], ◌∷◌, map, Option, Some, None, refl, subst, sym, arith}
-use Rattle.std.specs.Prelude.{All}
+use Rattle.std.specs.Prelude.{All, FitsSigned}
+use Rattle.std.specs.Int.{w32, w64}
 use Rattle.std.specs.Str.{IsUtf8}
 use Rattle.std.proofs.lemmas.Str.{utf8_lossy-IsUtf8}
 use Rattle.std.proofs.lemmas.List.Elements.{All-head, All-tail}
@@ -39,7 +40,7 @@ use Rattle.flat_code.specs.declared.graph.Task.{Task}
 use Rattle.flat_code.specs.declared.graph.Graph.{Graph}
 use Rattle.graph_file.specs.Words.{class_word, field_kind_word, method_kind_word, task_kind_word, operand_word, num_word, bin_word, un_word, variable_word, result_word}
 use Rattle.graph_file.specs.Written.{name_data, number_data, field_data, instr_data, variable_data, method_data, task_data, graph_data}
-use Rattle.graph_file.specs.Writable.{FitsBits, FitsSignedBits, IsWritableInstr, IsWritableMethod, IsNamed, IsWritableTask, IsWritable}
+use Rattle.graph_file.specs.Writable.{FitsBits, IsWritableInstr, IsWritableMethod, IsNamed, IsWritableTask, IsWritable}
 use Rattle.graph_file.proofs.Exact.{IsExactNumber, IsExact, AreExact}
 
 -- ---- words
@@ -134,11 +135,11 @@ result_utf8 (Some t) = variable_utf8 (One t)
 name_exact : (name : List ℕ) → IsUtf8 name → IsExact (name_data name)
 name_exact name h = subst IsUtf8 (sym (utf8_lossy-IsUtf8 name h)) h
 
-integer_exact : (n : ℤ) → FitsSignedBits 64 n → IsExactNumber (of_integer n)
+integer_exact : (n : ℤ) → FitsSigned w64 n → IsExactNumber (of_integer n)
 integer_exact (pos n) h = omega arith
-integer_exact (negsuc n) h = h
+integer_exact (negsuc n) h = omega arith
 
-int_exact : (n : ℤ) → FitsSignedBits 32 n → IsExactNumber (of_integer n)
+int_exact : (n : ℤ) → FitsSigned w32 n → IsExactNumber (of_integer n)
 int_exact (pos n) h = omega arith
 int_exact (negsuc n) h = omega arith
 

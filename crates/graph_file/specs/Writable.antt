@@ -1,5 +1,6 @@
 -- The graphs that a file can hold: their names are UTF-8, their numbers fit their types, their operators are those of flat code, and exactly the tasks that work on a field name one.
-use Rattle.std.specs.Prelude.{◌≡◌, ℕ, ℤ, pos, negsuc, ◌<◌, ◌^◌, ◌-◌, List, All, Option, Some, None, is_some}
+use Rattle.std.specs.Prelude.{◌≡◌, ℕ, ◌<◌, ◌^◌, List, All, FitsSigned, Option, Some, None, is_some}
+use Rattle.std.specs.Int.{w32, w64}
 use Rattle.std.specs.Str.{IsUtf8}
 use Rattle.sdg_base.specs.declared.operator.BinOp.{BinOp}
 use Rattle.sdg_base.specs.declared.operator.BinOp.TheVariants as bin
@@ -15,11 +16,6 @@ use Rattle.graph_file.specs.Forms.{has_field}
 abbrev pub FitsBits : ℕ → ℕ → Type 0
 FitsBits bits n = n < 2 ^ bits
 
--- in two's complement
-abbrev pub FitsSignedBits : ℕ → ℤ → Type 0
-FitsSignedBits bits (pos n) = n < 2 ^ (bits - 1)
-FitsSignedBits bits (negsuc n) = n < 2 ^ (bits - 1)
-
 -- `&&` and `||` are jumps in flat code, and a unary plus adds nothing.
 abbrev pub IsFlatBin : BinOp → Type 0
 IsFlatBin bin.AndAlso = ⊥
@@ -31,8 +27,8 @@ IsFlatUn un.Plus = ⊥
 IsFlatUn _ = Unit {0}
 
 abbrev pub IsWritableInstr : Instr → Type 0
-IsWritableInstr (instr.Int n) = FitsSignedBits 32 n
-IsWritableInstr (instr.Long n) = FitsSignedBits 64 n
+IsWritableInstr (instr.Int n) = FitsSigned w32 n
+IsWritableInstr (instr.Long n) = FitsSigned w64 n
 IsWritableInstr (instr.Load v) = FitsBits 32 v
 IsWritableInstr (instr.Store v) = FitsBits 32 v
 IsWritableInstr (instr.Bin op t) = IsFlatBin op
