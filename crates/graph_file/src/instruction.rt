@@ -1,8 +1,10 @@
 //! Reading instructions: a word and its operands.
 
+ghost use Rattle.std.specs.Prelude.{IfOk};
 ghost use Rattle.serde_json.specs.View.{view, items_view};
 ghost use Rattle.graph_file.specs.Found.{Tells};
 ghost use Rattle.graph_file.specs.Forms.{none, one, bin_parts, bin_form, access_parts, access_form, operands_form, instr_form};
+ghost use Rattle.graph_file.specs.Writable.{IsWritableInstr};
 
 use crate::fault::Fault;
 use crate::form::{Form, part};
@@ -13,6 +15,8 @@ use std::alloc::Global;
 
 impl Form for Instr {
     ghost form = { instr_form };
+
+    ghost is_writable = { IsWritableInstr };
 
     fn read(alloc: Global, value: &Value) -> Result<Instr, Fault> {
         match value {
@@ -30,7 +34,8 @@ impl Form for Instr {
 
 /// Reads the operands of an instruction.
 fn with_operands(alloc: Global, mnemonic: Mnemonic, operands: &[Value]) -> Result<Instr, Fault>
-    ensures { Tells (operands_form mnemonic (items_view operands.now)) result }
+    ensures told { Tells (operands_form mnemonic (items_view operands.now)) result }
+    ensures made { IfOk result IsWritableInstr }
 {
     match mnemonic {
         Mnemonic::Int => Ok(Instr::Int(one(alloc, operands)?)),
@@ -49,7 +54,9 @@ fn with_operands(alloc: Global, mnemonic: Mnemonic, operands: &[Value]) -> Resul
 
 /// The instruction, where it has no operands.
 fn none(alloc: Global, operands: &[Value], instr: Instr) -> Result<Instr, Fault>
-    ensures { Tells (none (items_view operands.now) instr) result }
+    requires { IsWritableInstr instr }
+    ensures told { Tells (none (items_view operands.now) instr) result }
+    ensures made { IfOk result IsWritableInstr }
 {
     match operands {
         [] => Ok(instr),
@@ -59,7 +66,8 @@ fn none(alloc: Global, operands: &[Value], instr: Instr) -> Result<Instr, Fault>
 
 /// Reads the one operand of an instruction.
 fn one<T: Form>(alloc: Global, operands: &[Value]) -> Result<T, Fault>
-    ensures { Tells (one T.form (items_view operands.now)) result }
+    ensures told { Tells (one T.form (items_view operands.now)) result }
+    ensures made { IfOk result T.is_writable }
 {
     match operands {
         [operand] => part(alloc, operand, "1"),
@@ -68,7 +76,8 @@ fn one<T: Form>(alloc: Global, operands: &[Value]) -> Result<T, Fault>
 }
 
 fn bin(alloc: Global, operands: &[Value]) -> Result<Instr, Fault>
-    ensures { Tells (bin_form (items_view operands.now)) result }
+    ensures told { Tells (bin_form (items_view operands.now)) result }
+    ensures made { IfOk result IsWritableInstr }
 {
     match operands {
         [op, operand_type] => bin_parts(alloc, op, operand_type),
@@ -77,7 +86,8 @@ fn bin(alloc: Global, operands: &[Value]) -> Result<Instr, Fault>
 }
 
 fn bin_parts(alloc: Global, op: &Value, operand_type: &Value) -> Result<Instr, Fault>
-    ensures { Tells (bin_parts (view op.now) (view operand_type.now)) result }
+    ensures told { Tells (bin_parts (view op.now) (view operand_type.now)) result }
+    ensures made { IfOk result IsWritableInstr }
 {
     let op = part(alloc, op, "1")?;
     let operand_type = part(alloc, operand_type, "2")?;
@@ -85,7 +95,8 @@ fn bin_parts(alloc: Global, op: &Value, operand_type: &Value) -> Result<Instr, F
 }
 
 fn access(alloc: Global, operands: &[Value]) -> Result<Instr, Fault>
-    ensures { Tells (access_form (items_view operands.now)) result }
+    ensures told { Tells (access_form (items_view operands.now)) result }
+    ensures made { IfOk result IsWritableInstr }
 {
     match operands {
         [field, method] => access_parts(alloc, field, method),
@@ -94,7 +105,8 @@ fn access(alloc: Global, operands: &[Value]) -> Result<Instr, Fault>
 }
 
 fn access_parts(alloc: Global, field: &Value, method: &Value) -> Result<Instr, Fault>
-    ensures { Tells (access_parts (view field.now) (view method.now)) result }
+    ensures told { Tells (access_parts (view field.now) (view method.now)) result }
+    ensures made { IfOk result IsWritableInstr }
 {
     let field = part(alloc, field, "1")?;
     let method = part(alloc, method, "2")?;

@@ -47,6 +47,7 @@ pub fn write_graph(alloc: Global, graph: &Graph) -> Result<Bytes, AllocError>
 pub fn read_graph(alloc: Global, bytes: &[u8]) -> Result<Graph, GraphError>
     ensures exact { result ≢ Err Memory → result ≡ reading bytes.now }
     ensures spelling { IfOk result (λ graph. bytes.now ≡ graph_text graph) }
+    ensures made { IfOk result IsWritable }
     ensures whole { (graph : Graph) → IsWritable graph → bytes.now ≡ graph_text graph
         → result ≢ Err Memory → result ≡ Ok graph }
 {
@@ -67,6 +68,7 @@ fn graph_in(alloc: Global, bytes: &[u8], value: &Value) -> Result<Graph, GraphEr
     ensures exact { result ≢ Err Memory
         → result ≡ of_form bytes.now (graph_form (view value.now)) }
     ensures spelling { IfOk result (λ graph. bytes.now ≡ graph_text graph) }
+    ensures made { IfOk result IsWritable }
 {
     match Graph::read(alloc, value) {
         Ok(graph) => spelled(alloc, bytes, graph),
@@ -86,8 +88,10 @@ fn refusal(fault: Fault) -> GraphError
 
 /// A graph, where bytes are its text.
 fn spelled(alloc: Global, bytes: &[u8], graph: Graph) -> Result<Graph, GraphError>
+    requires { IsWritable graph }
     ensures exact { result ≢ Err Memory → result ≡ of_graph bytes.now graph }
     ensures spelling { IfOk result (λ graph. bytes.now ≡ graph_text graph) }
+    ensures made { IfOk result IsWritable }
 {
     let text = write_graph(alloc, &graph)?;
     if bytes == text.as_slice() {

@@ -2,6 +2,7 @@
 
 ghost use Rattle.std.specs.Prelude.{◌≡◌};
 ghost use Rattle.graph_file.specs.Mnemonics.{mnemonic_word, mnemonics, instr_alone, instr_with};
+ghost use Rattle.graph_file.specs.Writable.{IsWritableInstr};
 
 use crate::word::Word;
 use flat_code::Instr;
@@ -55,7 +56,8 @@ pub(crate) enum Mnemonic {
 impl Alone {
     /// Its instruction.
     pub(crate) fn instr(self) -> Instr
-        ensures { result ≡ instr_alone self }
+        ensures value { result ≡ instr_alone self }
+        ensures writable { IsWritableInstr result }
     {
         match self {
             Alone::Pop => Instr::Pop,
@@ -71,7 +73,8 @@ impl Alone {
 impl Numbered {
     /// Its instruction with a number.
     pub(crate) fn instr(self, number: u32) -> Instr
-        ensures { result ≡ instr_with self number }
+        ensures value { result ≡ instr_with self number }
+        ensures writable { IsWritableInstr result }
     {
         match self {
             Numbered::Load => Instr::Load(number),

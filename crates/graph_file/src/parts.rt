@@ -1,9 +1,12 @@
 //! Reading a graph: its fields, methods and tasks.
 
-ghost use Rattle.std.specs.Prelude.{◌≡◌, Option, option_map};
+ghost use Rattle.std.specs.Prelude.{◌≡◌, Option, option_map, is_some, IfOk, IsTrue};
 ghost use Rattle.serde_json.specs.View.{view};
 ghost use Rattle.graph_file.specs.Found.{Tells};
-ghost use Rattle.graph_file.specs.Forms.{count, field_parts, field_form, method_members, method_form, has_field, suits, task_field, task_members, task_parts, task_form, graph_members, graph_form, versioned};
+ghost use Rattle.graph_file.specs.Forms.{count, field_parts, field_form, method_members, method_form, has_field, suits, task_field, task_members, task_parts, task_form, graph_members, graph_form, versioned, word_of};
+ghost use Rattle.graph_file.specs.Words.{task_kind_word, task_kinds};
+ghost use Rattle.graph_file.specs.Writable.{IsNamed, IsWritableMethod, IsWritableTask, IsWritable};
+ghost use Rattle.std.specs.Str.{IsUtf8};
 
 use crate::fault::Fault;
 use crate::form::{Form, part};
@@ -15,6 +18,8 @@ use std::alloc::Global;
 
 impl Form for GraphField {
     ghost form = { field_form };
+
+    ghost is_writable = { λ f. IsUtf8 f.name };
 
     fn read(alloc: Global, value: &Value) -> Result<GraphField, Fault> {
         match value {
@@ -28,7 +33,8 @@ impl Form for GraphField {
 }
 
 fn field(alloc: Global, name: &Value, class: &Value, kind: &Value) -> Result<GraphField, Fault>
-    ensures { Tells (field_parts (view name.now) (view class.now) (view kind.now)) result }
+    ensures told { Tells (field_parts (view name.now) (view class.now) (view kind.now)) result }
+    ensures made { IfOk result (λ f. IsUtf8 f.name) }
 {
     let name = part(alloc, name, "0")?;
     let class = part(alloc, class, "1")?;
@@ -48,6 +54,8 @@ fn count(value: &Value) -> usize
 
 impl Form for GraphMethod {
     ghost form = { method_form };
+
+    ghost is_writable = { IsWritableMethod };
 
     fn read(alloc: Global, value: &Value) -> Result<GraphMethod, Fault> {
         if count(value) != 6 {
@@ -84,8 +92,9 @@ fn method(
     returned: &Value,
     vars: &Value,
 ) -> Result<GraphMethod, Fault>
-    ensures { Tells (method_members (view code.now) (view kind.now) (view name.now) (view params.now)
+    ensures told { Tells (method_members (view code.now) (view kind.now) (view name.now) (view params.now)
         (view returned.now) (view vars.now)) result }
+    ensures made { IfOk result IsWritableMethod }
 {
     let code = part(alloc, code, "code")?;
     let kind = part(alloc, kind, "kind")?;
@@ -122,6 +131,8 @@ fn suits(kind: Option<TaskKind>, is_there: bool) -> bool
 impl Form for Task {
     ghost form = { task_form };
 
+    ghost is_writable = { IsWritableTask };
+
     fn read(alloc: Global, value: &Value) -> Result<Task, Fault> {
         let field = value.get("field");
         let members = if field.is_some() { 5 } else { 4 };
@@ -148,7 +159,9 @@ impl Form for Task {
 }
 
 fn task_field(alloc: Global, field: Option<&Value>) -> Result<Option<Name>, Fault>
-    ensures { Tells (task_field (option_map (λ v. view v.now) field.entry)) result }
+    ensures told { Tells (task_field (option_map (λ v. view v.now) field.entry)) result }
+    ensures named { IfOk result IsNamed }
+    ensures there { IfOk result (λ name. is_some name ≡ is_some field.entry) }
 {
     match field {
         None => Ok(None),
@@ -164,8 +177,10 @@ fn task(
     method: &Value,
     vars: &Value,
 ) -> Result<Task, Fault>
-    ensures { Tells (task_members (view at.now) (option_map (λ v. view v.now) field.entry)
+    requires { IsTrue (suits (word_of task_kind_word task_kinds (view kind.now)) (is_some field)) }
+    ensures told { Tells (task_members (view at.now) (option_map (λ v. view v.now) field.entry)
         (view kind.now) (view method.now) (view vars.now)) result }
+    ensures made { IfOk result IsWritableTask }
 {
     let at = part(alloc, at, "at")?;
     let field = task_field(alloc, field)?;
@@ -183,6 +198,8 @@ fn task(
 
 impl Form for Graph {
     ghost form = { graph_form };
+
+    ghost is_writable = { IsWritable };
 
     fn read(alloc: Global, value: &Value) -> Result<Graph, Fault> {
         if count(value) != 5 {
@@ -215,8 +232,9 @@ fn graph(
     tasks: &Value,
     version: &Value,
 ) -> Result<Graph, Fault>
-    ensures { Tells (graph_members (view class.now) (view fields.now) (view methods.now)
+    ensures told { Tells (graph_members (view class.now) (view fields.now) (view methods.now)
         (view tasks.now) (view version.now)) result }
+    ensures made { IfOk result IsWritable }
 {
     let class = part(alloc, class, "class")?;
     let fields = part(alloc, fields, "fields")?;
@@ -233,7 +251,9 @@ fn graph(
 
 /// The graph, where the version of its file is 1.
 fn versioned(alloc: Global, version: &Value, graph: Graph) -> Result<Graph, Fault>
-    ensures { Tells (versioned (view version.now) graph) result }
+    requires { IsWritable graph }
+    ensures told { Tells (versioned (view version.now) graph) result }
+    ensures made { IfOk result IsWritable }
 {
     match version.as_u64() {
         Some(1) => Ok(graph),

@@ -5,6 +5,7 @@ ghost use Rattle.serde_json.specs.View.{view};
 ghost use Rattle.state_classes.specs.Methods.{method_text};
 ghost use Rattle.graph_file.specs.Found.{Tells};
 ghost use Rattle.graph_file.specs.Forms.{word_of, word_form};
+ghost use Rattle.graph_file.specs.Writable.{IsFlatBin, IsFlatUn};
 ghost use Rattle.graph_file.specs.Mnemonics.{mnemonic_word, mnemonics};
 ghost use Rattle.graph_file.specs.Words.{class_word, classes, field_kind_word, field_kinds, method_kind_word, method_kinds, task_kind_word, task_kinds, operand_word, operand_types, num_word, nums, bin_word, bin_ops, un_word, un_ops, methods, variable_word, variable_types, result_word, result_types};
 
@@ -40,6 +41,8 @@ fn word<T: Word>(alloc: Global, value: &Value) -> Result<T, Fault>
 impl Form for ClassName {
     ghost form = { word_form class_word classes };
 
+    ghost is_writable = { λ _. Unit {0} };
+
     fn read(alloc: Global, value: &Value) -> Result<ClassName, Fault> {
         word(alloc, value)
     }
@@ -47,6 +50,8 @@ impl Form for ClassName {
 
 impl Form for FieldKind {
     ghost form = { word_form field_kind_word field_kinds };
+
+    ghost is_writable = { λ _. Unit {0} };
 
     fn read(alloc: Global, value: &Value) -> Result<FieldKind, Fault> {
         word(alloc, value)
@@ -56,6 +61,8 @@ impl Form for FieldKind {
 impl Form for MethodKind {
     ghost form = { word_form method_kind_word method_kinds };
 
+    ghost is_writable = { λ _. Unit {0} };
+
     fn read(alloc: Global, value: &Value) -> Result<MethodKind, Fault> {
         word(alloc, value)
     }
@@ -63,6 +70,8 @@ impl Form for MethodKind {
 
 impl Form for TaskKind {
     ghost form = { word_form task_kind_word task_kinds };
+
+    ghost is_writable = { λ _. Unit {0} };
 
     fn read(alloc: Global, value: &Value) -> Result<TaskKind, Fault> {
         word(alloc, value)
@@ -72,6 +81,8 @@ impl Form for TaskKind {
 impl Form for Option<VarType> {
     ghost form = { word_form result_word result_types };
 
+    ghost is_writable = { λ _. Unit {0} };
+
     fn read(alloc: Global, value: &Value) -> Result<Option<VarType>, Fault> {
         word(alloc, value)
     }
@@ -79,6 +90,8 @@ impl Form for Option<VarType> {
 
 impl Form for VariableType {
     ghost form = { word_form variable_word variable_types };
+
+    ghost is_writable = { λ _. Unit {0} };
 
     fn read(alloc: Global, value: &Value) -> Result<VariableType, Fault> {
         word(alloc, value)
@@ -88,6 +101,8 @@ impl Form for VariableType {
 impl Form for OperandType {
     ghost form = { word_form operand_word operand_types };
 
+    ghost is_writable = { λ _. Unit {0} };
+
     fn read(alloc: Global, value: &Value) -> Result<OperandType, Fault> {
         word(alloc, value)
     }
@@ -95,6 +110,8 @@ impl Form for OperandType {
 
 impl Form for Num {
     ghost form = { word_form num_word nums };
+
+    ghost is_writable = { λ _. Unit {0} };
 
     fn read(alloc: Global, value: &Value) -> Result<Num, Fault> {
         word(alloc, value)
@@ -104,6 +121,8 @@ impl Form for Num {
 impl Form for BinOp {
     ghost form = { word_form bin_word bin_ops };
 
+    ghost is_writable = { IsFlatBin };
+
     fn read(alloc: Global, value: &Value) -> Result<BinOp, Fault> {
         word(alloc, value)
     }
@@ -111,6 +130,8 @@ impl Form for BinOp {
 
 impl Form for UnOp {
     ghost form = { word_form un_word un_ops };
+
+    ghost is_writable = { IsFlatUn };
 
     fn read(alloc: Global, value: &Value) -> Result<UnOp, Fault> {
         word(alloc, value)
@@ -120,6 +141,8 @@ impl Form for UnOp {
 impl Form for Method {
     ghost form = { word_form method_text methods };
 
+    ghost is_writable = { λ _. Unit {0} };
+
     fn read(alloc: Global, value: &Value) -> Result<Method, Fault> {
         word(alloc, value)
     }
@@ -127,6 +150,8 @@ impl Form for Method {
 
 impl Form for Mnemonic {
     ghost form = { word_form mnemonic_word mnemonics };
+
+    ghost is_writable = { λ _. Unit {0} };
 
     fn read(alloc: Global, value: &Value) -> Result<Mnemonic, Fault> {
         word(alloc, value)

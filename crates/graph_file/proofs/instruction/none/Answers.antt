@@ -2,5 +2,5 @@ use Rattle.std.proofs.Common.{arith}
 use Rattle.graph_file.proofs.Others.{none_else}
 use Rattle.graph_file.proofs.instruction.none.Goals as goal
 
-pub returns-in_default : goal.returns-in_default
-returns-in_default c = rw c.here.ensures (none_else c.args.instr c.args.operands.now (λ e. omega arith))
+pub returns-in_default-clause-told : goal.returns-in_default-clause-told
+returns-in_default-clause-told c = rw c.here.ensures (none_else c.args.instr c.args.operands.now (λ e. omega arith))

@@ -5,8 +5,8 @@ use Rattle.graph_file.specs.Forms.{field_form}
 use Rattle.graph_file.proofs.Others.{field_else}
 use Rattle.graph_file.proofs.parts.GraphFieldForm.read.Goals as goal
 
-pub returns-in_default-as_slice : goal.returns-in_default-as_slice
-returns-in_default-as_slice c =
+pub returns-in_default-as_slice-clause-told : goal.returns-in_default-as_slice-clause-told
+returns-in_default-as_slice-clause-told c =
     let list = c.in-Array.list in
     let seen = ap view c.in-Array.is ∙ view-Array list in
     let other : length c.as_slice.result.now ≢ 3 = grind arith in
