@@ -135,7 +135,7 @@ abbrev pub instr_form : Data → Found Instr
 instr_form (array (item word operands)) = under (codes "0") (word_form mnemonic_word mnemonics word) >>= λ m. operands_form m operands
 instr_form _ = Err []
 
--- ---- objects
+-- ---- objects: exactly the members of the form, so as many as it has, and each of them
 
 -- how many members an object has
 abbrev pub count : Data → ℕ
