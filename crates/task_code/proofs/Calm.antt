@@ -1,5 +1,5 @@
 -- Where no field's state is there, no instruction accesses one.
-use Rattle.std.proofs.Common.{◌≡◌, ℤ, ℕ, zero, suc, pos, negsuc, Bool, true, false, List, [], ◌∷◌, length, Option, Some, None, Result, Ok, Err, refl, sym, ap, ◌∙◌, arith}
+use Rattle.std.proofs.Common.{◌≡◌, ℤ, ℕ, zero, suc, Bool, true, false, List, [], ◌∷◌, Option, Some, None, Result, Ok, Err, refl, sym, ap, ◌∙◌, arith}
 use Rattle.std.specs.Prelude.{if◌then◌else◌}
 use Rattle.std.proofs.lemmas.Bool.{false≢true}
 use Rattle.std.proofs.lemmas.Grind.{common_steps}
@@ -12,7 +12,7 @@ use Rattle.state_classes.specs.declared.method.Method.{Method}
 use Rattle.flat_code.specs.declared.graph.GraphMethod.{GraphMethod}
 use Rattle.flat_code.specs.declared.graph.Instr.{Instr}
 use Rattle.flat_code.specs.declared.graph.Instr.TheVariants as instr
-use Rattle.flat_code.specs.Machine.{Setting, Frame, Performed, Called, Gave, Failed, Calls, Goes, Accesses, Ends, perform_on, pushed, answered, operated, stored, turned, new_vector, element, element_set, set_at, member, with_member, with_found, member_size, member_checked, member_element, found, item_at, at_index, long_at, a_long, size_of, variable_in, call, call_on, arguments, merge, after_call, access, access_by, is_own_field, key_value}
+use Rattle.flat_code.specs.Machine.{Setting, Frame, Performed, Called, Gave, Failed, Calls, Goes, Accesses, Ends, perform_on, pushed, answered, operated, stored, turned, new_vector, element, element_set, set_at, member, with_member, with_found, member_size, member_checked, member_element, found, item_at, at_index, size_of, variable_in, call, call_on, arguments, after_call, access, access_by, is_own_field, key_value}
 use Rattle.flat_code.specs.Types.{signature_at}
 use Rattle.task_code.specs.Seen.{seen}
 

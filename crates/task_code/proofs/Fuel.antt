@@ -8,7 +8,7 @@ use Rattle.sdg_base.specs.declared.val.Outcome.TheVariants as outcome
 use Rattle.state_classes.specs.declared.method.Method.{Method}
 use Rattle.state_classes.specs.States.{State, called}
 use Rattle.flat_code.specs.declared.graph.Instr.{Instr}
-use Rattle.flat_code.specs.Machine.{Setting, Frame, Ran, Running, Ending, Stopped, Performed, Goes, Accesses, Ends, perform, perform_on, run_within, after, after_access, pushed_result}
+use Rattle.flat_code.specs.Machine.{Setting, Frame, Ran, Running, Ending, Stopped, Performed, Goes, Accesses, Ends, perform, run_within, after, after_access, pushed_result}
 use Rattle.task_code.specs.Seen.{seen, seen_frame, seen_ran}
 
 -- ---- the least number of steps

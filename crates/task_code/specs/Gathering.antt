@@ -1,5 +1,5 @@
 -- Values that parts brought, gathered behind others.
-use Rattle.std.specs.Prelude.{List, [], ◌∷◌, ◌++◌, Option, Some, None}
+use Rattle.std.specs.Prelude.{List, ◌++◌, Option, Some, None}
 use Rattle.sdg_base.specs.declared.val.Outcome.{Outcome}
 use Rattle.sdg_base.specs.declared.val.Val.{Val}
 use Rattle.flat_code.specs.Items.{Gathered, AllValues, FirstOther}

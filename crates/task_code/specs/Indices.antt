@@ -1,5 +1,5 @@
 -- What stands at an index that is a value, and vectors with an element set.
-use Rattle.std.specs.Prelude.{ℤ, ℕ, Bool, nat_lt, length, List, Option, Some, None, slice_get, slice_set, if◌then◌else◌}
+use Rattle.std.specs.Prelude.{ℤ, ℕ, nat_lt, length, List, Option, Some, None, slice_get, slice_set, if◌then◌else◌}
 use Rattle.sdg_base.specs.declared.val.Val.{Val}
 use Rattle.sdg_base.specs.declared.val.Val.TheVariants as val
 use Rattle.flat_code.specs.Machine.{at_index}

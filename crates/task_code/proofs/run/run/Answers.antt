@@ -1,15 +1,14 @@
-use Rattle.std.proofs.Common.{◌≡◌, ◌<◌, List, Option, Some, length, refl, sym, ap, subst, ◌∙◌, arith}
+use Rattle.std.proofs.Common.{◌<◌, List, Option, length, refl, sym, ap, subst, ◌∙◌}
 use Rattle.std.proofs.lemmas.Option.{slice_get_read, slice_get_past}
 use Rattle.sdg_base.specs.declared.val.Val.{Val}
 use Rattle.sdg_base.specs.declared.val.Outcome.{Outcome}
 use Rattle.sdg_base.specs.declared.val.Outcome.TheVariants as outcome
-use Rattle.state_classes.specs.States.{State}
 use Rattle.flat_code.specs.declared.graph.Instr.{Instr}
 use Rattle.flat_code.specs.Machine as machine
 use Rattle.task_code.specs.declared.step.Move.{Move}
 use Rattle.task_code.specs.Seen.{ending_of, frame_of, moves, seen, seen_frame, seen_ran, setting_of}
 use Rattle.task_code.proofs.Calling.{none_is_not, some_along}
-use Rattle.task_code.proofs.Fuel.{left, GoesOn, goes_on, access_goes_on, ended, access_ended, performs}
+use Rattle.task_code.proofs.Fuel.{left, goes_on, access_goes_on, ended, access_ended, performs}
 use Rattle.task_code.proofs.run.run.Goals as goal
 
 pub step-requires-clause-right : goal.step-requires-clause-right

@@ -1,4 +1,4 @@
-use Rattle.std.proofs.Common.{sym, ap, ◌∙◌, get_or, arith}
+use Rattle.std.proofs.Common.{sym, ap, ◌∙◌, get_or}
 use Rattle.std.proofs.Math.ListN.{set}
 use Rattle.sdg_base.specs.declared.val.Val.{Val}
 use Rattle.flat_code.specs.Items.{set_all}

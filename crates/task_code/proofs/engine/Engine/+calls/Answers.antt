@@ -1,5 +1,4 @@
-use Rattle.std.proofs.Common.{◌≡◌, ◌<◌, ◌-◌, ℕ, List, [], ◌∷◌, Option, Some, None, IsSome, length, refl, sym, ap, ◌∙◌, arith}
-use Rattle.std.specs.List.{slice_get}
+use Rattle.std.proofs.Common.{List, Option, length, refl, sym, ap, ◌∙◌, arith}
 use Rattle.std.proofs.lemmas.Option.{slice_get_read, slice_get_past}
 use Rattle.std.proofs.lemmas.Result.{IfOk-weaker}
 use Rattle.sdg_base.specs.declared.val.Val.{Val}
@@ -7,10 +6,10 @@ use Rattle.flat_code.specs.declared.graph.Instr.{Instr}
 use Rattle.flat_code.specs.Machine as machine
 use Rattle.task_code.specs.declared.step.Move.{Move}
 use Rattle.task_code.specs.declared.step.Step.{Step}
-use Rattle.task_code.specs.Seen.{calling, called_of, ending_of, frame_of, leads, moves, seen, seen_frame, seen_ran, setting_of}
+use Rattle.task_code.specs.Seen.{calling, ending_of, frame_of, leads, moves, seen, seen_frame, seen_ran, setting_of}
 use Rattle.task_code.proofs.Calling.{can_call, method_found, method_missing, no_depth, none_is_not, some_along}
 use Rattle.task_code.proofs.Calm.{no_access}
-use Rattle.task_code.proofs.Fuel.{GoesOn, goes_on, ended, performs}
+use Rattle.task_code.proofs.Fuel.{goes_on, ended, performs}
 use Rattle.task_code.proofs.engine.Engine.+calls.Goals as goal
 
 pub call_method-unreachable-requires : goal.call_method-unreachable-requires

@@ -1,4 +1,4 @@
-use Rattle.std.proofs.Common.{arith, ap, refl, ◌≡◌, ◌∙◌, List, [], Option, Some, None, sym}
+use Rattle.std.proofs.Common.{arith, ap, refl, ◌≡◌, ◌∙◌, List, [], Some, None, sym}
 use Rattle.std.proofs.lemmas.Grind.{common_steps}
 use Rattle.sdg_base.specs.declared.val.Val.{Val}
 use Rattle.sdg_base.specs.declared.val.Exn.TheVariants as exn
