@@ -281,15 +281,16 @@ fn byte_of<K: Keep>(
     }
 }
 
-/// Whether a noted call was done.
-fn done(call: &KeepCall) -> bool {
+/// Whether a call was noted, and done.
+fn done(call: Option<&KeepCall>) -> bool {
     match call {
-        KeepCall::Clear { done, .. } => *done,
-        KeepCall::Put { done, .. } => *done,
-        KeepCall::Sync { done, .. } => *done,
-        KeepCall::Append { done, .. } => *done,
-        KeepCall::Get { gave, .. } => gave.is_some(),
-        KeepCall::Notes { gave, .. } => gave.is_some(),
+        None => false,
+        Some(KeepCall::Clear { done, .. }) => *done,
+        Some(KeepCall::Put { done, .. }) => *done,
+        Some(KeepCall::Sync { done, .. }) => *done,
+        Some(KeepCall::Append { done, .. }) => *done,
+        Some(KeepCall::Get { gave, .. }) => gave.is_some(),
+        Some(KeepCall::Notes { gave, .. }) => gave.is_some(),
     }
 }
 
@@ -324,18 +325,17 @@ fn each_keep_call_fails_in_turn(rt: HostRuntime) -> Result<(), Fail> {
     ] {
         let mut keep = MemoryKeep::new(alloc, fails_at(alloc, number, effect)?);
         let answers = eight_calls(alloc, &mut keep, &first, &other, &piece)?;
-        let mut call = 0;
-        for answer in answers {
-            call += 1;
-            assert_eq!(rt; answer, call == number, "call {call}, {number} fails");
-        }
         assert_eq!(rt; keep.faults, if number == 0 { 0 } else { 1 });
         assert_eq!(rt; keep.changes.len(), changes, "call {number}");
         assert_eq!(rt; keep.calls.len(), 8);
-        let mut call = 0;
-        for noted in keep.calls.as_slice() {
-            call += 1;
-            assert_eq!(rt; done(noted), call != number, "call {call}, {number} fails");
+        for at in 0..8 {
+            let fails = at as u64 + 1 == number;
+            assert_eq!(rt; answers[at], fails, "call {at}, {number} fails");
+            assert_eq!(rt;
+                done(keep.calls.get(at)),
+                !fails,
+                "call {at}, {number} fails"
+            );
         }
         assert_eq!(rt; byte_of(alloc, &mut keep, 2, &other)?, b, "call {number}");
         assert_eq!(rt; byte_of(alloc, &mut keep, 1, &first)?, a, "call {number}");
