@@ -1,5 +1,5 @@
-//! The flat code of a class, and its stateful dataflow graph: what they are made of, and what the
-//! instructions, items and tasks mean.
+//! The flat code of a class, and its stateful dataflow graph: what they are made of, what instructions,
+//! items and tasks mean, and what a verified graph is.
 #![tactic(auto)]
 
 mod graph;
