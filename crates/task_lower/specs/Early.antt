@@ -1,0 +1,23 @@
+-- Assigned variables with whether they are read for their value, and sets of variables.
+use Rattle.std.specs.Prelude.{◌≡◌, ℕ, Bool, nat_eq, ◌||◌, if◌then◌else◌, List, [], ◌∷◌}
+use Rattle.std.specs.HashSet.{contains}
+use Rattle.std.specs.HashSet.{HashSet}
+use Rattle.body_code.specs.Early as spec
+use Rattle.body_code.specs.Early.{is_in}
+use Rattle.task_lower.specs.declared.early.Assigned.{Assigned}
+
+abbrev pub noted : spec.Assigned → Assigned
+noted a = record { variable = a.variable; is_read = is_in a.variable a.reads }
+
+-- the same behind a key that reads some variables
+abbrev pub with_key : (ℕ → Bool) → Assigned → Assigned
+with_key key a = record { variable = a.variable; is_read = key a.variable || a.is_read }
+
+abbrev pub also : ℕ → (ℕ → Bool) → ℕ → Bool
+also v seen w = nat_eq v w || seen w
+
+-- where some variables are assigned already
+abbrev pub early_by : (ℕ → Bool) → List Assigned → List ℕ
+early_by seen [] = []
+early_by seen (a ∷ others) =
+    if seen a.variable then early_by seen others else if a.is_read then a.variable ∷ early_by (also a.variable seen) others else early_by (also a.variable seen) others

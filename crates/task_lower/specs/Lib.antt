@@ -1,0 +1,4 @@
+pub mod Pushing
+pub mod Drafting
+pub mod Shown
+pub mod Early
