@@ -1,0 +1,5 @@
+mod Pushed
+mod Filled
+mod Emitted
+mod ListEnds
+mod ReadSets

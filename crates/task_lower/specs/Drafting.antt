@@ -23,6 +23,10 @@ abbrev pub AreWithin : ℕ → ℕ → List Hole → Type 0
 AreWithin low high [] = Unit {0}
 AreWithin low high (h ∷ holes) = (low ≤ h.at) × (h.at < high) × AreWithin low high holes
 
+-- a jump out of a loop's body
+abbrev pub exit_piece : Exit → Piece
+exit_piece exit = record { size = 1; tasks = 0; carried = []; from = λ p exits. jump exit exits ∷ [] }
+
 -- where the next piece is put
 abbrev pub place_of : Draft → Place
 place_of d = record { at = length d.code; task = d.tasks; variable = length d.variables }

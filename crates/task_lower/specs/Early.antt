@@ -21,3 +21,7 @@ abbrev pub early_by : (ℕ → Bool) → List Assigned → List ℕ
 early_by seen [] = []
 early_by seen (a ∷ others) =
     if seen a.variable then early_by seen others else if a.is_read then a.variable ∷ early_by (also a.variable seen) others else early_by (also a.variable seen) others
+
+-- a set has what it had, and these variables
+pub record AreAlso {S : Type 0} (vs : List ℕ) (old new : HashSet ℕ S) : Type 0 where
+  pub each : (v : ℕ) → contains nat_eq new v ≡ (is_in v vs || contains nat_eq old v)

@@ -1,7 +1,8 @@
 //! The code of accesses to fields, of the marks before them, and of those that gather.
 
-ghost use Rattle.std.specs.Prelude.{◌≡◌, [], ◌∷◌, OnOk, IfOk, map, slice_get};
-ghost use Rattle.std.specs.Option.{option_map};
+ghost use Rattle.std.specs.Prelude.{◌≡◌, [], ◌∷◌, ◌++◌, OnOk, IfOk, map, option_to_list};
+ghost use Rattle.std.specs.List.{flat_map, range_with_len};
+ghost use Rattle.std.specs.Option.{option_copied, option_map};
 ghost use Rattle.body_code.specs.Codes.{plain};
 ghost use Rattle.body_code.specs.StatementCode as spec;
 ghost use Rattle.state_classes.specs.Shown.{signature_of};
@@ -20,7 +21,7 @@ use state_classes::{Method, Signature, state_method};
 use std::alloc::{AllocError, Global};
 
 fn name_in(alloc: Global, field: Option<&GraphField>) -> Result<Name, AllocError>
-    ensures { IfOk result (λ name. name ≡ spec.name_in (option_copied field)) }
+    ensures { IfOk result (λ name. name ≡ spec.name_in (option_copied field.entry)) }
 {
     match field {
         None => Ok(Items::new(alloc)),
@@ -35,7 +36,7 @@ fn field_name(alloc: Global, scope: &Scope<'_>, field: usize) -> Result<Name, Al
 }
 
 fn signature_in(field: Option<&GraphField>, method: Method) -> Option<Signature>
-    ensures { option_map signature_of result ≡ spec.signature_in (option_copied field) method }
+    ensures { option_map signature_of result ≡ spec.signature_in (option_copied field.entry) method }
 {
     match field {
         None => None,

@@ -1,11 +1,8 @@
 //! The code of a method's body.
 
-ghost use Rattle.std.specs.Prelude.{◌≡◌, ℕ, [], ◌++◌, length, OnOk, IfOk, map};
-ghost use Rattle.std.specs.List.{list_any, flat_map};
-ghost use Rattle.body_code.specs.Codes.{plain};
-ghost use Rattle.body_code.specs.Early.{early};
+ghost use Rattle.std.specs.Prelude.{◌≡◌, ◌+◌, [], ◌∷◌, ◌++◌, OnOk, IfOk, map, slice_get};
+ghost use Rattle.std.specs.List.{list_any};
 ghost use Rattle.body_code.specs.ClassCode as spec;
-ghost use Rattle.task_lower.specs.Pushing.{Pushes};
 ghost use Rattle.task_lower.specs.Drafting.{place_of};
 
 use crate::completing::body_completes;
@@ -88,12 +85,29 @@ fn first_cut(kind: MethodKind, task: u32) -> Result<u32, AllocError>
     }
 }
 
-fn is_merge(kind: MethodKind) -> bool
-    ensures { IsTrue result ↔ (kind ≡ MethodKind.Merge) }
+/// A variable of each type more.
+fn ones(types: &mut Items<FlatType>, variables: &[VariableType]) -> Result<(), AllocError>
+    ensures { OnOk result (types.new ≡ types.old ++ map spec.one_of variables.now) }
 {
-    match kind {
-        MethodKind::Merge => true,
-        MethodKind::Entry | MethodKind::Helper => false,
+    for found in variables {
+        types.push(FlatType::One(var_type_by(*found)))?;
+    }
+    Ok(())
+}
+
+/// The first variable is a collection.
+fn with_collection(
+    types: &mut Items<FlatType>,
+    variables: &[VariableType],
+) -> Result<(), AllocError>
+    ensures { OnOk result (types.new ≡ types.old ++ spec.with_collection variables.now) }
+{
+    match variables {
+        [] => Ok(()),
+        [first, others @ ..] => {
+            types.push(FlatType::Collection(var_type_by(*first)))?;
+            ones(types, others)
+        }
     }
 }
 
@@ -106,13 +120,9 @@ fn variables_of(
     ensures { IfOk result (λ types. types ≡ spec.variables_of kind variables.now) }
 {
     let mut types = Items::new(alloc);
-    for (number, found) in variables.iter().enumerate() {
-        let found = var_type_by(*found);
-        if number == 0 && is_merge(kind) {
-            types.push(FlatType::Collection(found))?;
-        } else {
-            types.push(FlatType::One(found))?;
-        }
+    match kind {
+        MethodKind::Merge => with_collection(&mut types, variables)?,
+        MethodKind::Entry | MethodKind::Helper => ones(&mut types, variables)?,
     }
     Ok(types)
 }

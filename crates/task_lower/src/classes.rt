@@ -1,6 +1,6 @@
 //! The flat code of a class.
 
-ghost use Rattle.std.specs.Prelude.{◌≡◌, IfOk, map};
+ghost use Rattle.std.specs.Prelude.{◌≡◌, ◌+◌, IfOk};
 ghost use Rattle.access_blocks.specs.Programs.{fields_in, methods_in};
 ghost use Rattle.access_blocks.specs.ResolvingStatements.{declared_type};
 ghost use Rattle.body_code.specs.ClassCode as spec;
@@ -94,10 +94,8 @@ fn taken_types(
     ensures { IfOk result (λ types. types ≡ spec.taken_types arity variables.now) }
 {
     let mut types = Items::new(alloc);
-    for (number, found) in variables.iter().enumerate() {
-        if number == arity {
-            return Ok(types);
-        }
+    let taken = &variables[..arity.min(variables.len())];
+    for found in taken {
         types.push(type_by(*found))?;
     }
     Ok(types)

@@ -72,6 +72,7 @@ fn with_second(first: Leaving, second: &Option<Boxed<Statement>>) -> Leaving
 }
 
 #[cycle(leavings)]
+#[tactic(auto, using(crate::proofs::ListEnds::from_start))]
 fn leaving_of_all(all: &[Statement]) -> Leaving
     ensures { leaving_by result ≡ spec.leaving (spec.completing (map spec.leaving_of all.now)) (spec.breaking (map spec.leaving_of all.now)) }
 {

@@ -1,10 +1,10 @@
 //! The code of a method while it is written.
 
-ghost use Rattle.std.specs.Prelude.{◌≡◌, [], OnOk, IfOk};
+ghost use Rattle.std.specs.Prelude.{◌≡◌, ◌+◌, [], OnOk, IfOk, slice_set};
 ghost use Rattle.body_code.specs.StatementCode as spec;
-ghost use Rattle.task_lower.specs.Drafting.{Emits, filled, jump};
+ghost use Rattle.task_lower.specs.Drafting.{Emits, exit_piece, filled, jump};
 
-use crate::instructions::{narrow, place, push};
+use crate::instructions::place;
 use flat_code::{Instr, VariableType};
 use sqlite_items::Items;
 use std::alloc::{AllocError, Global};

@@ -1,13 +1,14 @@
 //! The locals that are read before the place where their text first assigns them.
 
-ghost use Rattle.std.specs.Prelude.{◌≡◌, ℕ, ◌++◌, ◌||◌, OnOk, IfOk, map};
+ghost use Rattle.std.specs.Prelude.{◌≡◌, ◌++◌, OnOk, IfOk, map, nat_eq, nat_lt};
 ghost use Rattle.std.specs.Option.{option_map};
 ghost use Rattle.std.specs.HashSet.{contains};
 ghost use Rattle.body_code.specs.Early as spec;
-ghost use Rattle.task_lower.specs.Early.{noted, noted_target, with_key};
+ghost use Rattle.body_code.specs.Typing.{needs_of_all};
+ghost use Rattle.task_lower.specs.Early.{noted, with_key, early_by};
 
 use crate::needs::{is_read, is_read_in, key_reads};
-use access_blocks::{Access, Body, Expression, Mark, Statement, Target};
+use access_blocks::{Access, Body, Mark, Statement, Target};
 use sqlite_items::{Boxed, Items};
 use std::alloc::{AllocError, Global};
 use std::collections::HashSet;
@@ -135,7 +136,7 @@ fn early_in(
     arity: usize,
     all: &[Assigned],
 ) -> Result<Items<usize>, AllocError>
-    ensures { IfOk result (λ early. early ≡ early_by (λ v. ltb v arity) all.now) }
+    ensures { IfOk result (λ early. early ≡ early_by (λ v. nat_lt v arity) all.now) }
 {
     let mut seen: HashSet<usize> = HashSet::new(alloc);
     let mut early = Items::new(alloc);

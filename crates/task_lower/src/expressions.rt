@@ -1,6 +1,7 @@
 //! The code of expressions: it pushes their value.
 
-ghost use Rattle.std.specs.Prelude.{◌≡◌, [], ◌∷◌, OnOk, IfOk, map};
+ghost use Rattle.std.specs.Prelude.{◌≡◌, [], ◌∷◌, OnOk, IfOk, map, slice_get};
+ghost use Rattle.sdg_base.specs.Types as types;
 ghost use Rattle.body_code.specs.Typing as typing;
 ghost use Rattle.body_code.specs.Codes.{plain, followed_by, all_of};
 ghost use Rattle.body_code.specs.ExpressionCode as spec;
@@ -117,7 +118,7 @@ fn unary(
     op: UnOp,
     a: &Expression,
 ) -> Result<Option<ValueType>, AllocError>
-    ensures found { IfOk result (λ found. found ≡ typing.of_one (typing.unary_type op) (spec.lowered scope.now.context a.now).type) }
+    ensures found { IfOk result (λ found. found ≡ typing.of_one (types.unary_type op) (spec.lowered scope.now.context a.now).type) }
     ensures code { OnOk result (Pushes (spec.unary op (spec.lowered scope.now.context a.now).code) code.old code.new) }
 {
     let found = expression(alloc, scope, code, a)?;
@@ -153,7 +154,7 @@ fn binary(
     a: &Expression,
     b: &Expression,
 ) -> Result<Option<ValueType>, AllocError>
-    ensures found { IfOk result (λ found. found ≡ typing.of_two (typing.binary_type op) (spec.lowered scope.now.context a.now).type (spec.lowered scope.now.context b.now).type) }
+    ensures found { IfOk result (λ found. found ≡ typing.of_two (types.binary_type op) (spec.lowered scope.now.context a.now).type (spec.lowered scope.now.context b.now).type) }
     ensures code { OnOk result (Pushes (spec.binary op (spec.lowered scope.now.context a.now) (spec.lowered scope.now.context b.now)) code.old code.new) }
 {
     match op {
@@ -176,7 +177,7 @@ fn and_also(
     a: &Expression,
     b: &Expression,
 ) -> Result<Option<ValueType>, AllocError>
-    ensures found { IfOk result (λ found. found ≡ typing.of_two (typing.binary_type BinOp.AndAlso) (spec.lowered scope.now.context a.now).type (spec.lowered scope.now.context b.now).type) }
+    ensures found { IfOk result (λ found. found ≡ typing.of_two (types.binary_type BinOp.AndAlso) (spec.lowered scope.now.context a.now).type (spec.lowered scope.now.context b.now).type) }
     ensures code { OnOk result (Pushes (spec.binary BinOp.AndAlso (spec.lowered scope.now.context a.now) (spec.lowered scope.now.context b.now)) code.old code.new) }
 {
     let left = expression(alloc, scope, code, a)?;
@@ -197,7 +198,7 @@ fn or_else(
     a: &Expression,
     b: &Expression,
 ) -> Result<Option<ValueType>, AllocError>
-    ensures found { IfOk result (λ found. found ≡ typing.of_two (typing.binary_type BinOp.OrElse) (spec.lowered scope.now.context a.now).type (spec.lowered scope.now.context b.now).type) }
+    ensures found { IfOk result (λ found. found ≡ typing.of_two (types.binary_type BinOp.OrElse) (spec.lowered scope.now.context a.now).type (spec.lowered scope.now.context b.now).type) }
     ensures code { OnOk result (Pushes (spec.binary BinOp.OrElse (spec.lowered scope.now.context a.now) (spec.lowered scope.now.context b.now)) code.old code.new) }
 {
     let left = expression(alloc, scope, code, a)?;

@@ -1,6 +1,6 @@
 //! The variables that expressions read.
 
-ghost use Rattle.std.specs.Prelude.{◌≡◌, ℕ, ◌||◌, OnOk, IfOk, nat_eq};
+ghost use Rattle.std.specs.Prelude.{◌≡◌, ℕ, [], ◌∷◌, OnOk, IfOk, nat_eq};
 ghost use Rattle.std.specs.HashSet.{contains};
 ghost use Rattle.body_code.specs.Typing.{needs, needs_of_all};
 ghost use Rattle.body_code.specs.Early.{is_in, key_reads};
@@ -12,13 +12,14 @@ use std::collections::HashSet;
 
 /// Whether an expression reads a variable.
 #[cycle(reading)]
+#[tactic(auto, using(crate::proofs::ReadSets::is_in_both, crate::proofs::ReadSets::is_in_one))]
 pub fn is_read(variable: usize, e: &Expression) -> bool
     ensures { result ≡ is_in variable (needs e.now).variables }
 {
     match e {
-        Expression::Variable(v) => *v == variable,
-        Expression::VectorSize(v) => *v == variable,
-        Expression::VectorElement(v, at) => is_read(variable, at.get()) || *v == variable,
+        Expression::Variable(v) => variable == *v,
+        Expression::VectorSize(v) => variable == *v,
+        Expression::VectorElement(v, at) => is_read(variable, at.get()) || variable == *v,
         Expression::Unary(_, a)
         | Expression::Cast(_, a)
         | Expression::NewVector(a)
@@ -45,6 +46,7 @@ pub fn is_read(variable: usize, e: &Expression) -> bool
 
 /// Whether some of several expressions reads a variable.
 #[cycle(reading)]
+#[tactic(auto, using(crate::proofs::ReadSets::is_in_both, crate::proofs::ReadSets::is_in_one))]
 pub fn is_read_in(variable: usize, all: &[Expression]) -> bool
     ensures { result ≡ is_in variable (needs_of_all all.now).variables }
 {
@@ -65,6 +67,7 @@ fn note(known: &mut HashSet<usize>, variable: usize) -> Result<(), AllocError>
 
 /// Adds the variables that an expression reads.
 #[cycle(noting)]
+#[tactic(auto, using(crate::proofs::ReadSets::also_none, crate::proofs::ReadSets::also_both))]
 fn note_reads(known: &mut HashSet<usize>, e: &Expression) -> Result<(), AllocError>
     ensures { OnOk result (AreAlso (needs e.now).variables known.old known.new) }
 {
@@ -100,6 +103,7 @@ fn note_reads(known: &mut HashSet<usize>, e: &Expression) -> Result<(), AllocErr
 }
 
 #[cycle(noting)]
+#[tactic(auto, using(crate::proofs::ReadSets::also_none, crate::proofs::ReadSets::also_both))]
 fn note_reads_in(known: &mut HashSet<usize>, all: &[Expression]) -> Result<(), AllocError>
     ensures { OnOk result (AreAlso (needs_of_all all.now).variables known.old known.new) }
 {

@@ -1,6 +1,7 @@
 //! The code of statements.
 
-ghost use Rattle.std.specs.Prelude.{◌≡◌, [], ◌∷◌, OnOk, IfOk, map};
+ghost use Rattle.std.specs.Prelude.{[], OnOk, IfOk, map};
+ghost use Rattle.std.specs.Option.{option_map};
 ghost use Rattle.body_code.specs.Codes.{plain, followed_by};
 ghost use Rattle.body_code.specs.ExpressionCode.{behind, code_of};
 ghost use Rattle.body_code.specs.Typing.{type_of};

@@ -5,7 +5,8 @@ ghost use Rattle.std.specs.Option.{option_copied};
 ghost use Rattle.flat_code.specs.Types.{same_type, same_types};
 ghost use Rattle.body_code.specs.Typing as spec;
 ghost use Rattle.body_code.specs.ExpressionCode.{operand_of};
-ghost use Rattle.sdg_base.specs.Types.{type_named};
+ghost use Rattle.sdg_base.specs.Types as types;
+ghost use Rattle.task_lower.specs.Pushing.{snoc_type};
 
 use crate::scope::Scope;
 use body_code::Callee;
@@ -81,7 +82,7 @@ pub fn where_type(
 
 /// The type of a unary operator's value.
 pub fn unary_by(op: UnOp, operand: Option<ValueType>) -> Option<ValueType>
-    ensures { result ≡ spec.of_one (spec.unary_type op) operand }
+    ensures { result ≡ spec.of_one (types.unary_type op) operand }
 {
     match operand {
         None => None,
@@ -95,7 +96,7 @@ pub fn binary_by(
     left: Option<ValueType>,
     right: Option<ValueType>,
 ) -> Option<ValueType>
-    ensures { result ≡ spec.of_two (spec.binary_type op) left right }
+    ensures { result ≡ spec.of_two (types.binary_type op) left right }
 {
     match (left, right) {
         (Some(left), Some(right)) => binary_type(op, left, right),
@@ -104,7 +105,7 @@ pub fn binary_by(
 }
 
 fn type_named(name: Num) -> ValueType
-    ensures { result ≡ type_named name }
+    ensures { result ≡ types.type_named name }
 {
     match name {
         Num::Int => ValueType::Int,
@@ -181,7 +182,7 @@ pub fn called_type(
     method: Option<&Callee>,
     args: &Option<Items<ValueType>>,
 ) -> Option<ValueType>
-    ensures { result ≡ spec.called_type (option_copied method) args.now }
+    ensures { result ≡ spec.called_type (option_copied method.entry) args.now }
 {
     match (method, args) {
         (Some(method), Some(args)) => called_by(method, args.as_slice()),
@@ -206,7 +207,7 @@ fn called_by(method: &Callee, args: &[ValueType]) -> Option<ValueType>
 
 /// The type of what a merge method gives.
 pub fn merged_type(method: Option<&Callee>) -> Option<ValueType>
-    ensures { result ≡ spec.merged_type (option_copied method) }
+    ensures { result ≡ spec.merged_type (option_copied method.entry) }
 {
     match method {
         None => None,
@@ -222,7 +223,7 @@ pub fn with_type(
     all: Option<Items<ValueType>>,
     more: Option<ValueType>,
 ) -> Result<Option<Items<ValueType>>, AllocError>
-    ensures { IfOk result (λ types. types ≡ spec.snoc_type all more) }
+    ensures { IfOk result (λ types. types ≡ snoc_type all more) }
 {
     match (all, more) {
         (Some(mut all), Some(more)) => {

@@ -1,0 +1,75 @@
+-- Numbers in lists and in sets.
+use Rattle.std.proofs.Common.{◌≡◌, ℕ, Bool, true, false, ◌||◌, nat_eq, nat_lt, cond, if◌then◌else◌, List, [], ◌∷◌, ◌++◌, map, refl, sym, ap, ◌∙◌, arith}
+use Rattle.std.proofs.lemmas.List.Folds.{list_any-append}
+use Rattle.std.specs.List.{list_any}
+use Rattle.std.specs.HashSet.{HashSet, contains}
+use Rattle.body_code.specs.Early.{is_in}
+use Rattle.body_code.specs.Early as spec
+use Rattle.task_lower.specs.declared.early.Assigned.{Assigned}
+use Rattle.task_lower.specs.Early.{noted, with_key, also, early_by, AreAlso}
+
+pub is_in_both : (v : ℕ) (xs ys : List ℕ) → is_in v (xs ++ ys) ≡ (is_in v xs || is_in v ys)
+is_in_both v xs ys = list_any-append (nat_eq v) xs ys
+
+or_false : (a : Bool) → (a || false) ≡ a
+or_false true = refl
+or_false false = refl
+
+or_assoc : (a b c : Bool) → ((a || b) || c) ≡ (a || (b || c))
+or_assoc true b c = refl
+or_assoc false b c = refl
+
+or_comm : (a b : Bool) → (a || b) ≡ (b || a)
+or_comm true true = refl
+or_comm true false = refl
+or_comm false true = refl
+or_comm false false = refl
+
+pub is_in_one : (v w : ℕ) → is_in v (w ∷ []) ≡ nat_eq v w
+is_in_one v w = or_false (nat_eq v w)
+
+pub also_none : {S : Type 0} (set : HashSet ℕ S) → AreAlso [] set set
+also_none set = record { each = λ v. refl }
+
+pub also_both : {S : Type 0} (xs ys : List ℕ) (s0 s1 s2 : HashSet ℕ S) → AreAlso xs s0 s1 → AreAlso ys s1 s2 → AreAlso (xs ++ ys) s0 s2
+also_both xs ys s0 s1 s2 p q = record {
+  each = λ v.
+      q.each v ∙ ap (λ b. is_in v ys || b) (p.each v) ∙ sym (or_assoc (is_in v ys) (is_in v xs) (contains nat_eq s0 v))
+      ∙ ap (λ b. b || contains nat_eq s0 v) (or_comm (is_in v ys) (is_in v xs) ∙ sym (is_in_both v xs ys));
+}
+
+cond_or : (a b : Bool) → cond a true b ≡ (a || b)
+cond_or true b = refl
+cond_or false b = refl
+
+same_either_way : (v w : ℕ) → nat_eq v w ≡ nat_eq w v
+same_either_way v w = grind arith
+
+pub also_inserted : {S : Type 0} (k : ℕ) (old new : HashSet ℕ S) → ((q : ℕ) → contains nat_eq new q ≡ cond (nat_eq k q) true (contains nat_eq old q)) → AreAlso (k ∷ []) old new
+also_inserted k old new h = record { each = λ v. h v ∙ cond_or (nat_eq k v) (contains nat_eq old v) ∙ ap (λ b. b || contains nat_eq old v) (same_either_way k v ∙ sym (is_in_one v k)) }
+
+-- ---- assigned variables
+
+pub noted_behind_key : (more : List ℕ) (all : List spec.Assigned) (key : ℕ → Bool) → ((v : ℕ) → key v ≡ is_in v more) → map (with_key key) (map noted all) ≡ map noted (map (spec.with_reads more) all)
+noted_behind_key more [] key same = refl
+noted_behind_key more (a ∷ all) key same =
+    ap (λ (b : Bool). (let x : Assigned = record { variable = a.variable; is_read = b } in x) ∷ map (with_key key) (map noted all))
+      (ap (λ b. b || is_in a.variable a.reads) (same a.variable) ∙ sym (is_in_both a.variable more a.reads))
+    ∙ ap (λ rest. noted (spec.with_reads more a) ∷ rest) (noted_behind_key more all key same)
+
+-- Only which variables were assigned before matters.
+pub early_same : (f g : ℕ → Bool) (all : List Assigned) → ((v : ℕ) → f v ≡ g v) → early_by f all ≡ early_by g all
+early_same f g [] same = refl
+early_same f g (a ∷ all) same =
+    ap (λ (b : Bool). if b then early_by f all else if a.is_read then a.variable ∷ early_by (also a.variable f) all else early_by (also a.variable f) all) (same a.variable)
+    ∙ ap (λ (es : List ℕ). if g a.variable then es else if a.is_read then a.variable ∷ early_by (also a.variable f) all else early_by (also a.variable f) all) (early_same f g all same)
+    ∙ ap (λ (es : List ℕ). if g a.variable then early_by g all else if a.is_read then a.variable ∷ es else es)
+      (early_same (also a.variable f) (also a.variable g) all (λ v. ap (λ b. nat_eq a.variable v || b) (same v)))
+
+pub early_is : (seen : List ℕ) (all : List spec.Assigned) → early_by (λ v. is_in v seen) (map noted all) ≡ spec.early_after seen all
+early_is seen [] = refl
+early_is seen (a ∷ all) =
+    ap (λ (es : List ℕ). if is_in a.variable seen then es else if is_in a.variable a.reads then a.variable ∷ early_by (also a.variable (λ v. is_in v seen)) (map noted all) else early_by (also a.variable (λ v. is_in v seen)) (map noted all)) (early_is seen all)
+    ∙ ap (λ (es : List ℕ). if is_in a.variable seen then spec.early_after seen all else if is_in a.variable a.reads then a.variable ∷ es else es)
+      (early_same (also a.variable (λ v. is_in v seen)) (λ v. is_in v (a.variable ∷ seen)) (map noted all) (λ v. ap (λ b. b || is_in v seen) (same_either_way a.variable v))
+       ∙ early_is (a.variable ∷ seen) all)
