@@ -1,4 +1,5 @@
 mod Pushed
+mod Listed
 mod Filled
 mod Emitted
 mod ListEnds

@@ -47,6 +47,9 @@ snoc_pushed cs c s0 s1 s2 p q =
   snoc_size [] c = omega arith
   snoc_size (d ∷ cs) c = let e = snoc_size cs c in omega (arith, e)
 
+pub two_pushed : (i j : Instr) (s0 s1 s2 : List Instr) → s1 ≡ s0 ++ i ∷ [] → s2 ≡ s1 ++ j ∷ [] → Pushes (plain (i ∷ j ∷ [])) s0 s2
+two_pushed i j s0 s1 s2 e f = pushed (i ∷ j ∷ []) s0 s2 (f ∙ ap (λ s. s ++ j ∷ []) e ∙ append_assoc s0 (i ∷ []) (j ∷ []))
+
 -- what stands at a seam is set
 pub set_seam : {A : Type 0} (xs : List A) (x : A) (ys : List A) (y : A) → slice_set (xs ++ x ∷ ys) (length xs) y ≡ xs ++ y ∷ ys
 set_seam [] x ys y = refl

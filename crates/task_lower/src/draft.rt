@@ -52,6 +52,7 @@ fn fill_one(code: &mut Items<Instr>, at: u32, instr: Instr)
 }
 
 /// It is known where `break` and `continue` go.
+#[tactic(auto, using(crate::proofs::Filled::filled_more))]
 pub fn fill(code: &mut Items<Instr>, holes: Items<Hole>, break_to: u32, continue_to: u32)
     ensures { code.new ≡ filled code.old holes (record { break_to = break_to; continue_to = continue_to }) }
 {
@@ -62,6 +63,7 @@ pub fn fill(code: &mut Items<Instr>, holes: Items<Hole>, break_to: u32, continue
 }
 
 /// The piece is a jump out of the loop.
+#[tactic(auto, using(crate::proofs::Emitted::exit_emitted))]
 pub fn jump_out(alloc: Global, draft: &mut Draft, exit: Exit) -> Result<Items<Hole>, AllocError>
     ensures { IfOk result (λ holes. Emits (exit_piece exit) draft.old draft.new holes) }
 {
@@ -73,13 +75,13 @@ pub fn jump_out(alloc: Global, draft: &mut Draft, exit: Exit) -> Result<Items<Ho
 }
 
 /// The task ends, and the next one begins behind it.
+#[tactic(auto, using(crate::proofs::Emitted::cut_emitted))]
 pub fn cut(draft: &mut Draft) -> Result<(), AllocError>
     ensures { OnOk result (Emits spec.cut draft.old draft.new []) }
 {
     draft.code.push(Instr::Turn)?;
     draft.code.push(Instr::Cut(draft.tasks))?;
-    count_task(draft)?;
-    Ok(())
+    count_task(draft)
 }
 
 /// One task more.

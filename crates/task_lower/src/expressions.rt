@@ -7,7 +7,7 @@ ghost use Rattle.body_code.specs.Codes.{plain, followed_by, all_of};
 ghost use Rattle.body_code.specs.ExpressionCode as spec;
 ghost use Rattle.task_lower.specs.Pushing.{Pushes};
 
-use crate::instructions::{branch, branch_behind, leave, leave_behind, narrow, narrower, push};
+use crate::instructions::{branch, branch_behind, leave, leave_behind, narrow, narrower, push, push_two};
 use crate::scope::Scope;
 use crate::types::{
     and_then, binary_by, called_type, cast_type, chosen_type, merged_type, operand_of, unary_by,
@@ -102,8 +102,7 @@ pub fn expression(
         }
         Expression::Call(method, args) => called(alloc, scope, code, *method, args.as_slice()),
         Expression::Merge(method) => {
-            push(code, Instr::Turn)?;
-            push(code, Instr::Merge(narrower(*method)?))?;
+            push_two(code, Instr::Turn, Instr::Merge(narrower(*method)?))?;
             Ok(merged_type(scope.method(*method)))
         }
     }
@@ -292,8 +291,7 @@ fn called(
     ensures code { OnOk result (Pushes (followed_by (all_of (map (λ a. a.code) (map (spec.lowered scope.now.context) args.now))) (plain (Instr.Turn ∷ Instr.Call method ∷ []))) code.old code.new) }
 {
     let found = expressions(alloc, scope, code, args)?;
-    push(code, Instr::Turn)?;
-    push(code, Instr::Call(narrower(method)?))?;
+    push_two(code, Instr::Turn, Instr::Call(narrower(method)?))?;
     Ok(called_type(scope.method(method), &found))
 }
 

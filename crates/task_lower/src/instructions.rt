@@ -36,10 +36,25 @@ pub fn place(code: &Items<Instr>) -> Result<u32, AllocError>
 }
 
 /// One instruction more.
+#[tactic(auto, using(crate::proofs::Pushed::pushed))]
 pub fn push(code: &mut Items<Instr>, instr: Instr) -> Result<(), AllocError>
     ensures { OnOk result (Pushes (plain (instr ∷ [])) code.old code.new) }
 {
     code.push(instr)?;
+    Ok(())
+}
+
+/// Two instructions more.
+#[tactic(auto, using(crate::proofs::Pushed::two_pushed))]
+pub fn push_two(
+    code: &mut Items<Instr>,
+    first: Instr,
+    second: Instr,
+) -> Result<(), AllocError>
+    ensures { OnOk result (Pushes (plain (first ∷ second ∷ [])) code.old code.new) }
+{
+    code.push(first)?;
+    code.push(second)?;
     Ok(())
 }
 

@@ -166,15 +166,17 @@ pub fn and_then(first: Option<ValueType>, second: Option<ValueType>) -> Option<V
 fn same_types(left: &[ValueType], right: &[ValueType]) -> bool
     ensures { result ≡ same_types left.now right.now }
 {
-    if left.len() != right.len() {
-        return false;
-    }
-    for (at, found) in left.iter().enumerate() {
-        if !same_type(*found, right[at]) {
+    let mut rest = right;
+    for found in left {
+        let [other, others @ ..] = rest else {
+            return false;
+        };
+        if !same_type(*found, *other) {
             return false;
         }
+        rest = others;
     }
-    true
+    rest.is_empty()
 }
 
 /// The type of a call of a method on arguments of these types.
