@@ -1,5 +1,6 @@
 mod Pushed
 mod Listed
+mod Paired
 mod Filled
 mod Emitted
 mod ListEnds

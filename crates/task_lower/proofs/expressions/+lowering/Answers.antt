@@ -1,4 +1,4 @@
-use Rattle.std.proofs.Common.{◌≡◌, Option, List, [], ◌∷◌, map, slice_get, IfOk, refl, sym, ap, subst, ◌∙◌, arith}
+use Rattle.std.proofs.Common.{◌≡◌, true, false, Option, List, [], ◌∷◌, map, slice_get, IfOk, refl, sym, ap, subst, ◌∙◌, arith}
 use Rattle.sdg_base.specs.declared.value_type.ValueType.{ValueType}
 use Rattle.flat_code.specs.declared.graph.Instr.TheVariants as instr
 use Rattle.access_blocks.specs.declared.body.Expression.{Expression}
@@ -10,7 +10,7 @@ use Rattle.task_lower.proofs.Listed.{taken_more, listed_types, listed_codes, low
 use Rattle.task_lower.proofs.expressions.+lowering.Goals as goal
 
 pub and_also-returns-clause-code : goal.and_also-returns-clause-code
-and_also-returns-clause-code c =
+and_also-returns-clause-code t c =
     let ctx = c.args.scope.now.context in
     let a = (lowered ctx c.args.a.now).code in
     let b = (lowered ctx c.args.b.now).code in
@@ -21,7 +21,7 @@ and_also-returns-clause-code c =
      c.in_ok-to_end.ensures.at c.in_ok-to_end.ensures.code c.in_ok-branch_behind.ensures c.in_ok-push.ensures c.in_ok-leave_behind.ensures)
 
 pub or_else-returns-clause-code : goal.or_else-returns-clause-code
-or_else-returns-clause-code c =
+or_else-returns-clause-code t c =
     let ctx = c.args.scope.now.context in
     let a = (lowered ctx c.args.a.now).code in
     let b = (lowered ctx c.args.b.now).code in
@@ -32,7 +32,7 @@ or_else-returns-clause-code c =
      c.in_ok-to_end.ensures.at c.in_ok-to_end.ensures.code c.in_ok-branch_behind.ensures c.in_ok-right.ensures.code c.in_ok-leave_behind.ensures)
 
 pub conditional-returns-clause-code : goal.conditional-returns-clause-code
-conditional-returns-clause-code c =
+conditional-returns-clause-code t c =
     let ctx = c.args.scope.now.context in
     let test = (lowered ctx c.args.test.now).code in
     let a = (lowered ctx c.args.a.now).code in
@@ -43,7 +43,7 @@ conditional-returns-clause-code c =
      c.in_ok-to_end.ensures.at c.in_ok-to_end.ensures.code c.in_ok-branch_behind.ensures c.in_ok-second.ensures.code c.in_ok-leave_behind.ensures)
 
 pub expression-returns-in-Call-clause-found : goal.expression-returns-in-Call-clause-found
-expression-returns-in-Call-clause-found c =
+expression-returns-in-Call-clause-found t c =
     let ctx = c.args.scope.now.context in
     let P : Option ValueType → Type 0 = λ t. IfOk c.called.result (λ found. found ≡ t) in
     subst P
@@ -52,7 +52,7 @@ expression-returns-in-Call-clause-found c =
     c.called.ensures.found
 
 pub expressions-loop-e-preserved : goal.expressions-loop-e-preserved
-expressions-loop-e-preserved c =
+expressions-loop-e-preserved t c =
     let ctx = c.args.scope.now.context in
     let all = c.args.all.now in
     let i = c.loop-e.e-index in
