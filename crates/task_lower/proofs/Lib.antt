@@ -1,5 +1,6 @@
 mod Pushed
 mod Listed
+mod Typed
 mod Paired
 mod Filled
 mod Emitted

@@ -1,7 +1,6 @@
 //! The code of statements.
 
-ghost use Rattle.std.specs.Prelude.{[], OnOk, IfOk, map};
-ghost use Rattle.std.specs.Option.{option_map};
+ghost use Rattle.std.specs.Prelude.{◌≡◌, [], None, Some, OnOk, IfOk, map};
 ghost use Rattle.body_code.specs.Codes.{plain, followed_by};
 ghost use Rattle.body_code.specs.ExpressionCode.{behind, code_of};
 ghost use Rattle.body_code.specs.Typing.{type_of};
@@ -145,8 +144,11 @@ pub fn statement(
         Statement::Marked(mark, body) => marked(alloc, scope, draft, mark.get(), body.get()),
         Statement::Opened(body) => statement(alloc, scope, draft, body.get()),
         Statement::Block(items) => statements(alloc, scope, draft, items.as_slice()),
-        Statement::If(test, first, second) => {
-            branches(alloc, scope, draft, test.get(), first.get(), second)
+        Statement::If(test, first, None) => {
+            if_alone(alloc, scope, draft, test.get(), first.get())
+        }
+        Statement::If(test, first, Some(second)) => {
+            if_else(alloc, scope, draft, test.get(), first.get(), second.get())
         }
         Statement::Loop(start, test, update, body) => {
             let holes = statements(alloc, scope, draft, start.as_slice())?;
@@ -211,25 +213,42 @@ fn jumped_over(
 }
 
 #[cycle(lowering)]
-fn branches(
+fn if_alone(
     alloc: Global,
     scope: &Scope<'_>,
     draft: &mut Draft,
     test: &Expression,
     first: &Statement,
-    second: &Option<Boxed<Statement>>,
 ) -> Result<Items<Hole>, AllocError>
-    ensures { IfOk result (λ holes. Emits (spec.branches (code_of scope.now.context test.now) (spec.piece_of scope.now first.now) (option_map (spec.piece_of scope.now) second.now)) draft.old draft.new holes) }
+    ensures { IfOk result (λ holes. Emits (spec.branches (code_of scope.now.context test.now) (spec.piece_of scope.now first.now) None) draft.old draft.new holes) }
 {
     expression(alloc, scope, &mut draft.code, test)?;
-    match second {
-        None => guarded(alloc, scope, draft, 0, first),
-        Some(second) => {
-            let mut holes = guarded(alloc, scope, draft, 1, first)?;
-            holes.append(jumped_over(alloc, scope, draft, second.get())?)?;
-            Ok(holes)
-        }
-    }
+    guarded(alloc, scope, draft, 0, first)
+}
+
+#[cycle(lowering)]
+fn if_else(
+    alloc: Global,
+    scope: &Scope<'_>,
+    draft: &mut Draft,
+    test: &Expression,
+    first: &Statement,
+    second: &Statement,
+) -> Result<Items<Hole>, AllocError>
+    ensures { IfOk result (λ holes. Emits (spec.branches (code_of scope.now.context test.now) (spec.piece_of scope.now first.now) (Some (spec.piece_of scope.now second.now))) draft.old draft.new holes) }
+{
+    expression(alloc, scope, &mut draft.code, test)?;
+    let mut holes = guarded(alloc, scope, draft, 1, first)?;
+    let later = jumped_over(alloc, scope, draft, second)?;
+    holes.append(later)?;
+    Ok(holes)
+}
+
+/// Where `continue` goes: to the update, where there is one (JLS 14.16).
+fn next_pass(scope: &Scope<'_>, again: u32, behind: u32, update: &[Statement]) -> u32
+    ensures { result ≡ spec.next_pass again behind (map (spec.piece_of scope.now) update.now) }
+{
+    if update.is_empty() { again } else { behind }
 }
 
 /// The passes of a loop.
@@ -247,12 +266,14 @@ fn passes(
     let again = place(&draft.code)?;
     let mut holes = tested(alloc, scope, draft, test)?;
     push(&mut draft.code, Instr::Turn)?;
-    holes.append(statement(alloc, scope, draft, body)?)?;
+    let within = statement(alloc, scope, draft, body)?;
+    holes.append(within)?;
     let behind = place(&draft.code)?;
-    holes.append(statements(alloc, scope, draft, update)?)?;
+    let later = statements(alloc, scope, draft, update)?;
+    holes.append(later)?;
     push(&mut draft.code, Instr::Jump(again))?;
     let end = place(&draft.code)?;
-    let next = if update.is_empty() { again } else { behind };
+    let next = next_pass(scope, again, behind, update);
     fill(&mut draft.code, holes, end, next);
     Ok(())
 }
@@ -269,7 +290,8 @@ pub fn statements(
 {
     let mut holes = Items::new(alloc);
     for st in all {
-        holes.append(statement(alloc, scope, draft, st)?)?;
+        let more = statement(alloc, scope, draft, st)?;
+        holes.append(more)?;
     }
     Ok(holes)
 }
