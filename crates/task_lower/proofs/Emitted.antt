@@ -10,7 +10,7 @@ use Rattle.access_blocks.specs.declared.body.Expression.{Expression}
 use Rattle.body_code.specs.Codes.{Code, nothing}
 use Rattle.body_code.specs.Typing.{Context}
 use Rattle.body_code.specs.ExpressionCode.{code_of}
-use Rattle.body_code.specs.StatementCode.{Place, Exits, Piece, moved, behind_piece, of_code, of_instructions, then_piece, in_order, guarded, jumped_over, tested, pass, next_pass, passes, cut}
+use Rattle.body_code.specs.StatementCode.{Place, Exits, Piece, moved, behind_piece, of_code, of_instructions, then_piece, in_order, branches, guarded, jumped_over, tested, pass, next_pass, passes, cut}
 use Rattle.task_lower.specs.declared.draft.Draft.{Draft}
 use Rattle.task_lower.specs.declared.draft.Exit.{Exit}
 use Rattle.task_lower.specs.declared.draft.Exit.TheVariants.{Test}
@@ -250,3 +250,35 @@ cut_emitted s0 s1 code tasks variables = record {
   tasks = tasks;
   variables = variables ∙ sym (append-nil s0.variables);
 }
+
+-- ---- pieces that are put together
+
+assoc_emitted : (a b p : Piece) (s0 s1 : Draft) (h : List Hole) → Emits (then_piece (then_piece a b) p) s0 s1 h → Emits (then_piece a (then_piece b p)) s0 s1 h
+assoc_emitted a b p s0 s1 h e =
+    let at = place_of s0 in
+    let long = e.long in
+    let tasks = e.tasks in
+    record {
+      is = λ exits.
+          e.is exits
+          ∙ ap (λ is. s0.code ++ is)
+            (append_assoc (a.from at exits) (b.from (behind_piece at a) exits) (p.from (behind_piece at (then_piece a b)) exits)
+             ∙ ap (λ q. a.from at exits ++ (b.from (behind_piece at a) exits ++ p.from q exits)) (sym (behind_both at a b)));
+      long = omega (arith, long);
+      within = e.within;
+      tasks = omega (arith, tasks);
+      variables = e.variables ∙ ap (λ (ts : List VarType). s0.variables ++ map One ts) (append_assoc a.carried b.carried p.carried);
+    }
+
+pub marked_emitted : (key body : Piece) (s0 s1 s2 : Draft) (h : List Hole) → Emits (then_piece key cut) s0 s1 [] → Emits body s1 s2 h → Emits (then_piece key (then_piece cut body)) s0 s2 h
+marked_emitted key body s0 s1 s2 h a b = assoc_emitted key cut body s0 s2 h (then_emitted (then_piece key cut) body s0 s1 s2 [] h a b)
+
+pub alone_emitted : (test : Code) (first : Piece) (s0 s1 s2 : Draft) (h : List Hole) → Pushes test s0.code s1.code → s1.tasks ≡ s0.tasks → s1.variables ≡ s0.variables → Emits (guarded 0 first) s1 s2 h
+    → Emits (branches test first None) s0 s2 h
+alone_emitted test first s0 s1 s2 h p tasks variables a = then_emitted (of_code test) (guarded 0 first) s0 s1 s2 [] h (code_emitted test s0 s1 p tasks variables) a
+
+pub else_emitted : (test : Code) (first second : Piece) (s0 s1 s2 s3 : Draft) (h g : List Hole) → Pushes test s0.code s1.code → s1.tasks ≡ s0.tasks → s1.variables ≡ s0.variables → Emits (guarded 1 first) s1 s2 h
+    → Emits (jumped_over second) s2 s3 g → Emits (branches test first (Some second)) s0 s3 (h ++ g)
+else_emitted test first second s0 s1 s2 s3 h g p tasks variables a b =
+    then_emitted (of_code test) (then_piece (guarded 1 first) (jumped_over second)) s0 s1 s3 [] (h ++ g) (code_emitted test s0 s1 p tasks variables)
+    (then_emitted (guarded 1 first) (jumped_over second) s1 s2 s3 h g a b)

@@ -4,5 +4,6 @@ mod Typed
 mod Paired
 mod Filled
 mod Emitted
+mod Carried
 mod ListEnds
 mod ReadSets

@@ -100,3 +100,6 @@ either_pushed a b s0 s1 s2 s3 s4 s5 s6 to_second to_end i j at_second is1 p at_e
           let l5 = ap length whole5 ∙ length-append front (j ∷ code_b) in
           omega (arith, l6, l5, long5);
     }
+
+pub both_pushed : (is js s0 s1 s2 : List Instr) → Pushes (plain is) s0 s1 → Pushes (plain js) s1 s2 → Pushes (plain (is ++ js)) s0 s2
+both_pushed is js s0 s1 s2 p q = pushed (is ++ js) s0 s2 (q.is ∙ ap (λ s. s ++ js) p.is ∙ append_assoc s0 is js)

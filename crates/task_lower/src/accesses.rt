@@ -113,11 +113,24 @@ pub fn access(
 {
     expressions(alloc, scope, code, access.args.as_slice())?;
     access_field(alloc, scope, code, access.field, access.method)?;
-    put(
-        code,
-        access.target,
-        result_type(scope, access.field, access.method),
-    )
+    let found = result_type(scope, access.field, access.method);
+    put(code, access.target, found)?;
+    Ok(())
+}
+
+/// The key of a mark, if it has one.
+fn key(
+    alloc: Global,
+    scope: &Scope<'_>,
+    code: &mut Items<Instr>,
+    key: &Option<Expression>,
+) -> Result<(), AllocError>
+    ensures { OnOk result (Pushes (spec.key_code scope.now key.now) code.old code.new) }
+{
+    if let Some(key) = key {
+        expression(alloc, scope, code, key)?;
+    }
+    Ok(())
 }
 
 /// The code of a mark: the key, and behind it the cut.
@@ -129,10 +142,9 @@ pub fn mark(
 ) -> Result<(), AllocError>
     ensures { OnOk result (Emits (spec.then_piece (spec.of_code (spec.key_code scope.now mark.now.key)) spec.cut) draft.old draft.new []) }
 {
-    if let Some(key) = &mark.key {
-        expression(alloc, scope, &mut draft.code, key)?;
-    }
-    cut(draft)
+    key(alloc, scope, &mut draft.code, &mark.key)?;
+    cut(draft)?;
+    Ok(())
 }
 
 /// Each argument is stored into a variable of its own.
@@ -218,7 +230,8 @@ fn visit(
         &mut draft.variables,
         argument_types(scope, gather.field, gather.method),
     )?;
-    count_task(draft)
+    count_task(draft)?;
+    Ok(())
 }
 
 /// The code of an access that gathers.
@@ -239,5 +252,6 @@ pub fn gather(
         first,
     )?;
     cut(draft)?;
-    visit(alloc, scope, draft, gather)
+    visit(alloc, scope, draft, gather)?;
+    Ok(())
 }

@@ -65,7 +65,8 @@ fn evaluate(
     ensures { OnOk result (Pushes (followed_by (code_of scope.now.context e.now) (plain (spec.dropped (type_of scope.now.context e.now)))) code.old code.new) }
 {
     let found = expression(alloc, scope, code, e)?;
-    drop_value(code, found)
+    drop_value(code, found)?;
+    Ok(())
 }
 
 fn return_value(
@@ -98,7 +99,8 @@ fn tested(
         None => Ok(Items::new(alloc)),
         Some(test) => {
             expression(alloc, scope, &mut draft.code, test.get())?;
-            jump_out(alloc, draft, Exit::Test)
+            let holes = jump_out(alloc, draft, Exit::Test)?;
+            Ok(holes)
         }
     }
 }
@@ -176,7 +178,8 @@ fn marked(
     ensures { IfOk result (λ holes. Emits (spec.marked scope.now before.now (spec.piece_of scope.now body.now)) draft.old draft.new holes) }
 {
     mark(alloc, scope, draft, before)?;
-    statement(alloc, scope, draft, body)
+    let holes = statement(alloc, scope, draft, body)?;
+    Ok(holes)
 }
 
 /// A statement behind a test, and where it goes if that is false: so far behind the statement.
@@ -223,7 +226,8 @@ fn if_alone(
     ensures { IfOk result (λ holes. Emits (spec.branches (code_of scope.now.context test.now) (spec.piece_of scope.now first.now) None) draft.old draft.new holes) }
 {
     expression(alloc, scope, &mut draft.code, test)?;
-    guarded(alloc, scope, draft, 0, first)
+    let holes = guarded(alloc, scope, draft, 0, first)?;
+    Ok(holes)
 }
 
 #[cycle(lowering)]
