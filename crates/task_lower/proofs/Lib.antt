@@ -5,5 +5,6 @@ mod Paired
 mod Filled
 mod Emitted
 mod Carried
+mod Looped
 mod ListEnds
 mod ReadSets

@@ -249,8 +249,8 @@ fn if_else(
 }
 
 /// Where `continue` goes: to the update, where there is one (JLS 14.16).
-fn next_pass(scope: &Scope<'_>, again: u32, behind: u32, update: &[Statement]) -> u32
-    ensures { result ≡ spec.next_pass again behind (map (spec.piece_of scope.now) update.now) }
+fn next_pass(again: u32, behind: u32, update: &[Statement]) -> u32
+    ensures { (f : Statement → spec.Piece) → result ≡ spec.next_pass again behind (map f update.now) }
 {
     if update.is_empty() { again } else { behind }
 }
@@ -277,7 +277,7 @@ fn passes(
     holes.append(later)?;
     push(&mut draft.code, Instr::Jump(again))?;
     let end = place(&draft.code)?;
-    let next = next_pass(scope, again, behind, update);
+    let next = next_pass(again, behind, update);
     fill(&mut draft.code, holes, end, next);
     Ok(())
 }
