@@ -5,6 +5,9 @@ mod Paired
 mod Filled
 mod Emitted
 mod Carried
+mod Bodied
+mod Untaken
+mod Taken
 mod Looped
 mod ListEnds
 mod ReadSets

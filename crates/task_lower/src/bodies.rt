@@ -1,7 +1,7 @@
 //! The code of a method's body.
 
 ghost use Rattle.std.specs.Prelude.{◌≡◌, ◌+◌, [], ◌∷◌, ◌++◌, OnOk, IfOk, map, slice_get};
-ghost use Rattle.std.specs.List.{list_any};
+ghost use Rattle.std.specs.List.{flat_map, list_any};
 ghost use Rattle.body_code.specs.ClassCode as spec;
 ghost use Rattle.task_lower.specs.Drafting.{place_of};
 
@@ -46,6 +46,18 @@ fn start_code(code: &mut Items<Instr>, found: VariableType) -> Result<(), AllocE
     }
 }
 
+fn start(code: &mut Items<Instr>, found: Option<VariableType>) -> Result<(), AllocError>
+    ensures { OnOk result (code.new ≡ code.old ++ spec.start_of found) }
+{
+    match found {
+        None => Ok(()),
+        Some(found) => {
+            start_code(code, found)?;
+            Ok(())
+        }
+    }
+}
+
 /// A variable is set before the body.
 fn set_at_start(
     code: &mut Items<Instr>,
@@ -54,10 +66,18 @@ fn set_at_start(
 ) -> Result<(), AllocError>
     ensures { OnOk result (code.new ≡ code.old ++ (spec.start_of (slice_get variables.now variable) ++ Instr.Store variable ∷ [])) }
 {
-    if let Some(found) = variables.get(variable) {
-        start_code(code, *found)?;
+    start(code, variables.get(variable).copied())?;
+    code.push(Instr::Store(narrow(variable)?))?;
+    Ok(())
+}
+
+fn set_all(code: &mut Items<Instr>, body: &Body, early: &[usize]) -> Result<(), AllocError>
+    ensures { OnOk result (code.new ≡ code.old ++ flat_map (spec.set_at_start body.now) early.now) }
+{
+    for variable in early {
+        set_at_start(code, body.variables.as_slice(), *variable)?;
     }
-    code.push(Instr::Store(narrow(variable)?))
+    Ok(())
 }
 
 /// The code before the statements of a body.
@@ -66,9 +86,7 @@ fn started(alloc: Global, body: &Body) -> Result<Items<Instr>, AllocError>
 {
     let mut code = Items::new(alloc);
     let early = early(alloc, body)?;
-    for variable in early.as_slice() {
-        set_at_start(&mut code, body.variables.as_slice(), *variable)?;
-    }
+    set_all(&mut code, body, early.as_slice())?;
     Ok(code)
 }
 

@@ -67,6 +67,7 @@ fn both(op: BinOp, left: Constant, right: Constant) -> Constant
     }
 }
 
+#[tactic(auto, using(crate::proofs::Untaken::untaken))]
 fn binary_value(op: BinOp, left: &Val, right: &Val) -> Constant
     ensures { constant_by result ≡ spec.answered (operation op left.now right.now) }
 {

@@ -99,7 +99,8 @@ fn marked(
     let key = key_reads(alloc, &mark.key)?;
     let mut within = Items::new(alloc);
     note_assigned(alloc, &mut within, body)?;
-    behind_key(all, &key, within.as_slice())
+    behind_key(all, &key, within.as_slice())?;
+    Ok(())
 }
 
 #[cycle(assigning)]
@@ -157,5 +158,6 @@ pub fn early(alloc: Global, body: &Body) -> Result<Items<usize>, AllocError>
 {
     let mut all = Items::new(alloc);
     all_assigned(alloc, &mut all, body.statements.as_slice())?;
-    early_in(alloc, body.arity, all.as_slice())
+    let early = early_in(alloc, body.arity, all.as_slice())?;
+    Ok(early)
 }

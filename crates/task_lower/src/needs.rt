@@ -84,12 +84,14 @@ fn note_reads(known: &mut HashSet<usize>, e: &Expression) -> Result<(), AllocErr
         | Expression::GatheredSize(a) => note_reads(known, a.get()),
         Expression::Binary(_, a, b) | Expression::GatheredElement(a, b) => {
             note_reads(known, a.get())?;
-            note_reads(known, b.get())
+            note_reads(known, b.get())?;
+            Ok(())
         }
         Expression::Conditional(test, a, b) => {
             note_reads(known, test.get())?;
             note_reads(known, a.get())?;
-            note_reads(known, b.get())
+            note_reads(known, b.get())?;
+            Ok(())
         }
         Expression::Call(_, args) => note_reads_in(known, args.as_slice()),
         Expression::Nothing
