@@ -1,12 +1,12 @@
 -- Numbers in lists and in sets.
-use Rattle.std.proofs.Common.{◌≡◌, ℕ, Bool, true, false, ◌||◌, nat_eq, nat_lt, cond, if◌then◌else◌, List, [], ◌∷◌, ◌++◌, map, refl, sym, ap, ◌∙◌, arith}
+use Rattle.std.proofs.Common.{◌≡◌, ℕ, Bool, true, false, ◌||◌, nat_eq, nat_lt, cond, if◌then◌else◌, List, [], ◌∷◌, ◌++◌, map, refl, sym, ap, ◌∙◌, append_assoc, arith}
 use Rattle.std.proofs.lemmas.List.Folds.{list_any-append}
 use Rattle.std.specs.List.{list_any}
 use Rattle.std.specs.HashSet.{HashSet, contains}
 use Rattle.body_code.specs.Early.{is_in}
 use Rattle.body_code.specs.Early as spec
 use Rattle.task_lower.specs.declared.early.Assigned.{Assigned}
-use Rattle.task_lower.specs.Early.{noted, with_key, also, early_by, AreAlso}
+use Rattle.task_lower.specs.Early.{noted, with_key, also, early_by, AreAlso, Notes}
 
 pub is_in_both : (v : ℕ) (xs ys : List ℕ) → is_in v (xs ++ ys) ≡ (is_in v xs || is_in v ys)
 is_in_both v xs ys = list_any-append (nat_eq v) xs ys
@@ -73,3 +73,36 @@ early_is seen (a ∷ all) =
     ∙ ap (λ (es : List ℕ). if is_in a.variable seen then spec.early_after seen all else if is_in a.variable a.reads then a.variable ∷ es else es)
       (early_same (also a.variable (λ v. is_in v seen)) (λ v. is_in v (a.variable ∷ seen)) (map noted all) (λ v. ap (λ b. b || is_in v seen) (same_either_way a.variable v))
        ∙ early_is (a.variable ∷ seen) all)
+
+with_first : (seen is_read : Bool) (v : ℕ) (early early_2 same others : List ℕ) → seen ≡ false → early_2 ≡ (if is_read then early ++ v ∷ [] else early)
+    → early_2 ++ others ≡ early ++ (if seen then same else if is_read then v ∷ others else others)
+with_first true is_read v early early_2 same others e f = absurd cc
+with_first false true v early early_2 same others e f = ap (λ es. es ++ others) f ∙ append_assoc early (v ∷ []) others
+with_first false false v early early_2 same others e f = ap (λ es. es ++ others) f
+
+pub notes_seen : {S : Type 0} (arity : ℕ) (a : Assigned) (seen : HashSet ℕ S) (early : List ℕ) → (nat_lt a.variable arity || contains nat_eq seen a.variable) ≡ true → Notes arity a seen seen early early
+notes_seen arity a seen early e =
+    let f = λ (v : ℕ). nat_lt v arity || contains nat_eq seen v in
+    record {
+      rest = λ others.
+          ap (λ (b : Bool). early ++ (if b then early_by f others else if a.is_read then a.variable ∷ early_by (also a.variable f) others else early_by (also a.variable f) others)) (sym e);
+    }
+
+or_moves : (a b c : Bool) → (a || (b || c)) ≡ (b || (a || c))
+or_moves true true c = refl
+or_moves true false c = refl
+or_moves false b c = refl
+
+pub notes_first : {S : Type 0} (arity : ℕ) (a : Assigned) (seen seen_2 : HashSet ℕ S) (early early_2 : List ℕ) → (nat_lt a.variable arity || contains nat_eq seen a.variable) ≡ false
+    → AreAlso (a.variable ∷ []) seen seen_2 → early_2 ≡ (if a.is_read then early ++ a.variable ∷ [] else early) → Notes arity a seen seen_2 early early_2
+notes_first arity a seen seen_2 early early_2 e p q =
+    let f = λ (v : ℕ). nat_lt v arity || contains nat_eq seen v in
+    let g = λ (v : ℕ). nat_lt v arity || contains nat_eq seen_2 v in
+    record {
+      rest = λ others.
+          ap (λ (es : List ℕ). early_2 ++ es)
+            (early_same g (also a.variable f) others
+             (λ v. ap (λ b. nat_lt v arity || b) (p.each v ∙ ap (λ b. b || contains nat_eq seen v) (is_in_one v a.variable ∙ same_either_way v a.variable))
+                   ∙ or_moves (nat_lt v arity) (nat_eq a.variable v) (contains nat_eq seen v)))
+          ∙ with_first (f a.variable) a.is_read a.variable early early_2 (early_by f others) (early_by (also a.variable f) others) e q;
+    }

@@ -1,5 +1,5 @@
 -- Assigned variables with whether they are read for their value, and sets of variables.
-use Rattle.std.specs.Prelude.{◌≡◌, ℕ, Bool, nat_eq, ◌||◌, if◌then◌else◌, List, [], ◌∷◌}
+use Rattle.std.specs.Prelude.{◌≡◌, ℕ, Bool, nat_eq, nat_lt, ◌||◌, if◌then◌else◌, List, [], ◌∷◌, ◌++◌}
 use Rattle.std.specs.HashSet.{contains}
 use Rattle.std.specs.HashSet.{HashSet}
 use Rattle.body_code.specs.Early as spec
@@ -25,3 +25,8 @@ early_by seen (a ∷ others) =
 -- a set has what it had, and these variables
 pub record AreAlso {S : Type 0} (vs : List ℕ) (old new : HashSet ℕ S) : Type 0 where
   pub each : (v : ℕ) → contains nat_eq new v ≡ (is_in v vs || contains nat_eq old v)
+
+-- Those that are early from here on are as many as before, once one assigned variable is looked at.
+pub record Notes {S : Type 0} (arity : ℕ) (a : Assigned) (seen seen_2 : HashSet ℕ S) (early early_2 : List ℕ) : Type 0 where
+  pub rest : (others : List Assigned)
+      → early_2 ++ early_by (λ v. nat_lt v arity || contains nat_eq seen_2 v) others ≡ early ++ early_by (λ v. nat_lt v arity || contains nat_eq seen v) (a ∷ others)

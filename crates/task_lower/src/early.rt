@@ -1,13 +1,13 @@
 //! The locals that are read before the place where their text first assigns them.
 
-ghost use Rattle.std.specs.Prelude.{◌≡◌, ◌++◌, OnOk, IfOk, map, nat_eq, nat_lt};
+ghost use Rattle.std.specs.Prelude.{◌≡◌, [], ◌∷◌, ◌++◌, ◌||◌, if◌then◌else◌, OnOk, IfOk, map, nat_eq, nat_lt};
 ghost use Rattle.std.specs.Option.{option_map};
 ghost use Rattle.std.specs.HashSet.{contains};
 ghost use Rattle.body_code.specs.Early as spec;
 ghost use Rattle.body_code.specs.Typing.{needs_of_all};
-ghost use Rattle.task_lower.specs.Early.{noted, with_key, early_by};
+ghost use Rattle.task_lower.specs.Early.{Notes, noted, with_key, early_by};
 
-use crate::needs::{is_read, is_read_in, key_reads};
+use crate::needs::{is_read, is_read_in, key_reads, note};
 use access_blocks::{Access, Body, Mark, Statement, Target};
 use sqlite_items::{Boxed, Items};
 use std::alloc::{AllocError, Global};
@@ -131,7 +131,41 @@ fn all_assigned(
     Ok(())
 }
 
-/// Those that are read for their own first value. So many first variables are assigned from the start.
+/// Whether a variable is assigned already. So many first variables are assigned from the start.
+fn is_seen(seen: &HashSet<usize>, arity: usize, variable: usize) -> bool
+    ensures { result ≡ (nat_lt variable arity || contains nat_eq seen.now variable) }
+{
+    variable < arity || seen.contains(&variable)
+}
+
+fn push_if(early: &mut Items<usize>, is_read: bool, variable: usize) -> Result<(), AllocError>
+    ensures { OnOk result (early.new ≡ (if is_read then early.old ++ variable ∷ [] else early.old)) }
+{
+    if is_read {
+        early.push(variable)?;
+    }
+    Ok(())
+}
+
+/// One variable is assigned: it is early where that is the first time and it is read for its value.
+#[tactic(auto, using(crate::proofs::ReadSets::notes_seen, crate::proofs::ReadSets::notes_first))]
+fn assign(
+    seen: &mut HashSet<usize>,
+    early: &mut Items<usize>,
+    arity: usize,
+    a: Assigned,
+) -> Result<(), AllocError>
+    ensures { OnOk result (Notes arity a seen.old seen.new early.old early.new) }
+{
+    if is_seen(seen, arity, a.variable) {
+        return Ok(());
+    }
+    note(seen, a.variable)?;
+    push_if(early, a.is_read, a.variable)?;
+    Ok(())
+}
+
+/// Those that are read for their own first value.
 fn early_in(
     alloc: Global,
     arity: usize,
@@ -142,12 +176,7 @@ fn early_in(
     let mut seen: HashSet<usize> = HashSet::new(alloc);
     let mut early = Items::new(alloc);
     for a in all {
-        if a.variable >= arity && !seen.contains(&a.variable) {
-            seen.insert(a.variable)?;
-            if a.is_read {
-                early.push(a.variable)?;
-            }
-        }
+        assign(&mut seen, &mut early, arity, *a)?;
     }
     Ok(early)
 }

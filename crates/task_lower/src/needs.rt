@@ -58,7 +58,9 @@ pub fn is_read_in(variable: usize, all: &[Expression]) -> bool
     false
 }
 
-fn note(known: &mut HashSet<usize>, variable: usize) -> Result<(), AllocError>
+/// Adds a variable.
+#[tactic(auto, using(crate::proofs::ReadSets::also_inserted))]
+pub fn note(known: &mut HashSet<usize>, variable: usize) -> Result<(), AllocError>
     ensures { OnOk result (AreAlso (variable ∷ []) known.old known.new) }
 {
     known.insert(variable)?;
@@ -82,9 +84,14 @@ fn note_reads(known: &mut HashSet<usize>, e: &Expression) -> Result<(), AllocErr
         | Expression::NewVector(a)
         | Expression::Gathered(a)
         | Expression::GatheredSize(a) => note_reads(known, a.get()),
-        Expression::Binary(_, a, b) | Expression::GatheredElement(a, b) => {
+        Expression::Binary(_, a, b) => {
             note_reads(known, a.get())?;
             note_reads(known, b.get())?;
+            Ok(())
+        }
+        Expression::GatheredElement(at, index) => {
+            note_reads(known, at.get())?;
+            note_reads(known, index.get())?;
             Ok(())
         }
         Expression::Conditional(test, a, b) => {
