@@ -103,3 +103,6 @@ either_pushed a b s0 s1 s2 s3 s4 s5 s6 to_second to_end i j at_second is1 p at_e
 
 pub both_pushed : (is js s0 s1 s2 : List Instr) → Pushes (plain is) s0 s1 → Pushes (plain js) s1 s2 → Pushes (plain (is ++ js)) s0 s2
 both_pushed is js s0 s1 s2 p q = pushed (is ++ js) s0 s2 (q.is ∙ ap (λ s. s ++ js) p.is ∙ append_assoc s0 is js)
+
+pub set_code : (start s0 s1 s2 : List Instr) (v w : ℕ) → s1 ≡ s0 ++ start → s2 ≡ s1 ++ instr.Store w ∷ [] → w ≡ v → s2 ≡ s0 ++ (start ++ instr.Store v ∷ [])
+set_code start s0 s1 s2 v w e f g = f ∙ ap (λ s. s ++ instr.Store w ∷ []) e ∙ append_assoc s0 start (instr.Store w ∷ []) ∙ ap (λ n. s0 ++ (start ++ instr.Store n ∷ [])) g

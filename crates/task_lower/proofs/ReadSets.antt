@@ -1,7 +1,9 @@
 -- Numbers in lists and in sets.
-use Rattle.std.proofs.Common.{◌≡◌, ℕ, Bool, true, false, ◌||◌, nat_eq, nat_lt, cond, if◌then◌else◌, List, [], ◌∷◌, ◌++◌, map, refl, sym, ap, ◌∙◌, append_assoc, arith}
+use Rattle.std.proofs.Common.{◌≡◌, ◌≤◌, ◌<◌, ◌+◌, zero, suc, length, drop, get_or, ℕ, Bool, true, false, ◌||◌, nat_eq, nat_lt, cond, if◌then◌else◌, List, [], ◌∷◌, ◌++◌, map, refl, sym, ap, ◌∙◌, append_assoc, arith}
 use Rattle.std.proofs.lemmas.List.Folds.{list_any-append}
-use Rattle.std.specs.List.{list_any}
+use Rattle.std.specs.List.{list_any, range_with_len}
+use Rattle.std.proofs.Math.Seq.{drop-cons}
+use Rattle.std.proofs.lemmas.Bool.Decides.{nat_tests}
 use Rattle.std.specs.HashSet.{HashSet, contains}
 use Rattle.body_code.specs.Early.{is_in}
 use Rattle.body_code.specs.Early as spec
@@ -106,3 +108,24 @@ notes_first arity a seen seen_2 early early_2 e p q =
                    ∙ or_moves (nat_lt v arity) (nat_eq a.variable v) (contains nat_eq seen v)))
           ∙ with_first (f a.variable) a.is_read a.variable early early_2 (early_by f others) (early_by (also a.variable f) others) e q;
     }
+
+-- ---- variables that are assigned from the start
+
+range_ends : (a v : ℕ) → a ≤ v → false ≡ nat_lt v (a + 0)
+range_ends a v h = grind (arith, nat_tests)
+
+range_goes_on : (a v n : ℕ) (rest : Bool) → a ≤ v → (a + 1 ≤ v → rest ≡ nat_lt v (a + 1 + n)) → (nat_eq v a || rest) ≡ nat_lt v (a + suc n)
+range_goes_on a v n rest h more = grind (arith, nat_tests)
+
+in_range : (n a v : ℕ) → a ≤ v → is_in v (range_with_len a n) ≡ nat_lt v (a + n)
+in_range zero a v h = range_ends a v h
+in_range (suc n) a v h = range_goes_on a v n (is_in v (range_with_len (a + 1) n)) h (λ more. in_range n (a + 1) v more)
+
+pub early_from_start : (arity : ℕ) (all : List spec.Assigned) → early_by (λ v. nat_lt v arity) (map noted all) ≡ spec.early_after (range_with_len 0 arity) all
+early_from_start arity all =
+    early_same (λ v. nat_lt v arity) (λ v. is_in v (range_with_len 0 arity)) (map noted all)
+      (λ v. sym (in_range arity 0 v (omega arith) ∙ ap (λ n. nat_lt v n) (let e : 0 + arity ≡ arity = omega arith in e)))
+    ∙ early_is (range_with_len 0 arity) all
+
+pub dropped : {A : Type 0} (xs : List A) (i : ℕ) (d : A) → i < length xs → drop i xs ≡ get_or xs i d ∷ drop (i + 1) xs
+dropped xs i d h = drop-cons xs i d h ∙ ap (λ n. get_or xs i d ∷ drop n xs) (let e : suc i ≡ i + 1 = omega arith in e)

@@ -58,7 +58,14 @@ fn start(code: &mut Items<Instr>, found: Option<VariableType>) -> Result<(), All
     }
 }
 
+fn variable_at(variables: &[VariableType], number: usize) -> Option<VariableType>
+    ensures { result ≡ slice_get variables.now number }
+{
+    variables.get(number).copied()
+}
+
 /// A variable is set before the body.
+#[tactic(auto, using(crate::proofs::Pushed::set_code))]
 fn set_at_start(
     code: &mut Items<Instr>,
     variables: &[VariableType],
@@ -66,8 +73,9 @@ fn set_at_start(
 ) -> Result<(), AllocError>
     ensures { OnOk result (code.new ≡ code.old ++ (spec.start_of (slice_get variables.now variable) ++ Instr.Store variable ∷ [])) }
 {
-    start(code, variables.get(variable).copied())?;
-    code.push(Instr::Store(narrow(variable)?))?;
+    let number = narrow(variable)?;
+    start(code, variable_at(variables, variable))?;
+    code.push(Instr::Store(number))?;
     Ok(())
 }
 

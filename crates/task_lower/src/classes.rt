@@ -1,11 +1,12 @@
 //! The flat code of a class.
 
-ghost use Rattle.std.specs.Prelude.{◌≡◌, ◌+◌, IfOk};
+ghost use Rattle.std.specs.Prelude.{◌≡◌, ◌+◌, [], ◌∷◌, ◌++◌, IfOk, OnOk};
 ghost use Rattle.access_blocks.specs.Programs.{fields_in, methods_in};
 ghost use Rattle.access_blocks.specs.ResolvingStatements.{declared_type};
 ghost use Rattle.body_code.specs.ClassCode as spec;
 
 use crate::bodies::{body_draft, var_type_by};
+use crate::draft::Draft;
 use crate::instructions::narrow;
 use crate::types::type_by;
 use access_blocks::{Body, Holder, Marked, Program};
@@ -143,28 +144,35 @@ fn graph_kind(kind: SourceKind) -> MethodKind
     }
 }
 
-/// A method whose first task has this number, and the number of the first task behind it.
-fn graph_method(
+/// Adds a method whose first task has this number, and gives the number of the first task behind it.
+fn add_method(
     alloc: Global,
     fields: &[GraphField],
     callees: &[Callee],
+    all: &mut Items<GraphMethod>,
     method: &Method,
     body: &Body,
     task: u32,
-) -> Result<(GraphMethod, u32), AllocError>
-    ensures method { IfOk result (λ made. made.0 ≡ spec.graph_method fields.now callees.now method.now body.now task) }
-    ensures task { IfOk result (λ made. made.1 ≡ task + spec.tasks_of fields.now callees.now body.now) }
+) -> Result<u32, AllocError>
+    ensures method { OnOk result (all.new ≡ all.old ++ spec.graph_method fields.now callees.now method.now body.now task ∷ []) }
+    ensures task { IfOk result (λ next. next ≡ task + spec.tasks_of fields.now callees.now body.now) }
 {
     let draft = body_draft(alloc, fields, callees, body, task)?;
+    let Draft {
+        code,
+        tasks,
+        variables,
+    } = draft;
     let made = GraphMethod {
-        code: draft.code,
+        code,
         kind: graph_kind(body.kind),
         name: Items::from_slice(alloc, method.name.as_slice())?,
         params: narrow(body.arity)?,
         result: result_of(&method.result),
-        vars: draft.variables,
+        vars: variables,
     };
-    Ok((made, draft.tasks))
+    all.push(made)?;
+    Ok(tasks)
 }
 
 fn graph_methods(
@@ -184,10 +192,8 @@ fn graph_methods(
             let [body, others @ ..] = rest else {
                 return Ok(all);
             };
-            let (made, next) = graph_method(alloc, fields, callees, method, body, task)?;
-            all.push(made)?;
+            task = add_method(alloc, fields, callees, &mut all, method, body, task)?;
             rest = others;
-            task = next;
         }
     }
     Ok(all)
