@@ -5,6 +5,7 @@ mod Paired
 mod Filled
 mod Emitted
 mod Carried
+mod Numbered
 mod Needed
 mod Bodied
 mod Untaken
