@@ -1,5 +1,5 @@
 -- The code of a body from its parts.
-use Rattle.std.proofs.Common.{◌≡◌, ℕ, Bool, List, ◌++◌, map, Option, ap, subst, sym, ◌∙◌}
+use Rattle.std.proofs.Common.{◌≡◌, ℕ, Bool, List, ◌++◌, Option, ap, subst, ◌∙◌}
 use Rattle.sdg_base.specs.declared.value_type.ValueType.{ValueType}
 use Rattle.java_tree.specs.declared.types.ValueType.{ValueType as VariableType}
 use Rattle.flat_code.specs.declared.graph.GraphField.{GraphField}
@@ -7,7 +7,7 @@ use Rattle.flat_code.specs.declared.graph.Instr.{Instr}
 use Rattle.access_blocks.specs.declared.body.Body.{Body}
 use Rattle.body_code.specs.declared.callee.Callee.{Callee}
 use Rattle.body_code.specs.Completing.{body_completes}
-use Rattle.body_code.specs.StatementCode.{Scope, Place, pieces_of}
+use Rattle.body_code.specs.StatementCode.{Scope, pieces_of}
 use Rattle.body_code.specs.ClassCode.{scope_of, started, body_place, no_exits, ended, body_code}
 use Rattle.task_lower.specs.declared.draft.Draft.{Draft}
 use Rattle.task_lower.specs.declared.draft.Hole.{Hole}
@@ -31,7 +31,7 @@ body_is fields methods b task scope s0 s1 holes code end completes is_scope is_s
     let P : Scope → Type 0 = λ s. Emits (pieces_of s b.statements) s0 s1 holes in
     let here = subst P is_scope e in
     let whole : code ≡ started b ++ (pieces_of (scope_of fields methods b) b.statements).from (body_place b task) no_exits =
-        is_code ∙ here.is no_exits
-        ∙ ap (λ c. c ++ (pieces_of (scope_of fields methods b) b.statements).from (place_of s0) no_exits) is_started
-        ∙ ap (λ p. started b ++ (pieces_of (scope_of fields methods b) b.statements).from p no_exits) is_place in
+    is_code ∙ here.is no_exits
+    ∙ ap (λ c. c ++ (pieces_of (scope_of fields methods b) b.statements).from (place_of s0) no_exits) is_started
+    ∙ ap (λ p. started b ++ (pieces_of (scope_of fields methods b) b.statements).from p no_exits) is_place in
     is_end ∙ ap (λ t. ended t code) is_completes ∙ ap (ended (body_completes b.statements)) whole

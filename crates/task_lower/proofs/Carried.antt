@@ -1,23 +1,20 @@
 -- Arguments that are carried to the visits.
-use Rattle.std.proofs.Common.{◌≡◌, ℕ, zero, suc, ◌+◌, ◌<◌, List, [], ◌∷◌, ◌++◌, length, map, refl, sym, ap, subst, ◌∙◌, append_assoc, length-append, arith}
+use Rattle.std.proofs.Common.{◌≡◌, ℕ, suc, ◌+◌, List, [], ◌∷◌, ◌++◌, length, map, refl, sym, ap, subst, ◌∙◌, append_assoc, length-append, arith}
 use Rattle.std.proofs.lemmas.List.{append-nil}
 use Rattle.std.proofs.lemmas.List.FromFn.{map-range_with_len_more, length-map-range_with_len}
 use Rattle.std.specs.List.{range_with_len, flat_map}
 use Rattle.sdg_base.specs.declared.value_type.ValueType.{ValueType}
 use Rattle.flat_code.specs.declared.graph.Instr.{Instr}
 use Rattle.flat_code.specs.declared.graph.Instr.TheVariants as instr
-use Rattle.flat_code.specs.declared.graph.VariableType.{VariableType}
 use Rattle.flat_code.specs.declared.graph.VariableType.TheVariants.{One}
 use Rattle.access_blocks.specs.declared.body.Expression.{Expression}
 use Rattle.access_blocks.specs.declared.body.Gather.{Gather}
-use Rattle.body_code.specs.Codes.{Code, nothing, followed_by}
 use Rattle.body_code.specs.Typing.{Context}
 use Rattle.body_code.specs.ExpressionCode.{code_of, behind}
 use Rattle.body_code.specs.StatementCode.{Scope, stored_from, stored, visit, field_name, signature_of, arguments_of, var_type, then_piece, cut, gather}
 use Rattle.task_lower.specs.declared.draft.Draft.{Draft}
 use Rattle.task_lower.specs.Pushing.{Pushes}
 use Rattle.task_lower.specs.Drafting.{Emits}
-use Rattle.task_lower.proofs.Pushed.{then_pushed}
 use Rattle.task_lower.proofs.Emitted.{then_emitted}
 
 pub loaded_more : (first n v : ℕ) (s0 s1 s2 : List Instr) → v ≡ first + n → s1 ≡ s0 ++ map instr.Load (range_with_len first n) → s2 ≡ s1 ++ instr.Load v ∷ []
@@ -87,9 +84,9 @@ visit_emitted scope g s0 s1 loaded accessed types is_loaded is_accessed code tas
     let access = instr.Access (field_name scope g.field) g.method in
     let part = instr.Part s0.tasks in
     let whole : s1.code ≡ s0.code ++ (loads ++ (access ∷ part ∷ [])) =
-        code ∙ ap (λ s. s ++ part ∷ []) (is_accessed ∙ ap (λ s. s ++ access ∷ []) is_loaded)
-        ∙ append_assoc (s0.code ++ loads) (access ∷ []) (part ∷ [])
-        ∙ append_assoc s0.code loads (access ∷ part ∷ []) in
+    code ∙ ap (λ s. s ++ part ∷ []) (is_accessed ∙ ap (λ s. s ++ access ∷ []) is_loaded)
+    ∙ append_assoc (s0.code ++ loads) (access ∷ []) (part ∷ [])
+    ∙ append_assoc s0.code loads (access ∷ part ∷ []) in
     record {
       is = λ exits. whole;
       long =

@@ -1,9 +1,8 @@
 -- Pieces behind pieces.
-use Rattle.std.proofs.Common.{◌≡◌, ℕ, zero, suc, ◌+◌, ◌<◌, ◌≤◌, List, [], ◌∷◌, ◌++◌, length, map, slice_set, Option, None, Some, refl, sym, ap, subst, ◌∙◌, append_assoc, length-append, arith}
+use Rattle.std.proofs.Common.{◌≡◌, ℕ, suc, ◌+◌, List, [], ◌∷◌, ◌++◌, length, map, slice_set, Option, None, Some, refl, sym, ap, subst, ◌∙◌, append_assoc, length-append, arith}
 use Rattle.std.proofs.lemmas.List.{append-nil}
 use Rattle.flat_code.specs.declared.graph.Instr.{Instr}
 use Rattle.flat_code.specs.declared.graph.Instr.TheVariants as instr
-use Rattle.flat_code.specs.declared.graph.VariableType.{VariableType}
 use Rattle.flat_code.specs.declared.graph.VariableType.TheVariants.{One}
 use Rattle.flat_code.specs.declared.graph.VarType.{VarType}
 use Rattle.access_blocks.specs.declared.body.Expression.{Expression}
@@ -16,7 +15,7 @@ use Rattle.task_lower.specs.declared.draft.Exit.{Exit}
 use Rattle.task_lower.specs.declared.draft.Exit.TheVariants.{Test}
 use Rattle.task_lower.specs.declared.draft.Hole.{Hole}
 use Rattle.task_lower.specs.Pushing.{Pushes}
-use Rattle.task_lower.specs.Drafting.{jump, filled, exit_piece, AreWithin, place_of, Emits}
+use Rattle.task_lower.specs.Drafting.{jump, filled, exit_piece, place_of, Emits}
 use Rattle.task_lower.proofs.Pushed.{nothing_pushed, set_at_seam}
 use Rattle.task_lower.proofs.Filled.{set_long, filled_long, filled_front, filled_set, filled_more, within_wider, within_both}
 
@@ -135,15 +134,15 @@ jump_before_emitted j i body s0 s1 s2 s3 h at is_at code1 tasks1 variables1 b co
     let long2 = b.long in
     let long3 : length s3.code ≡ length s2.code = ap length code3 ∙ set_long s2.code at (j (place_of s0)) in
     let place1 : place_of s1 ≡ moved 1 (place_of s0) =
-        place_is (length s1.code) s1.tasks (length s0.code + 1) s0.tasks (length s1.variables) (length s0.variables) long1 tasks1 (ap length variables1) in
+    place_is (length s1.code) s1.tasks (length s0.code + 1) s0.tasks (length s1.variables) (length s0.variables) long1 tasks1 (ap length variables1) in
     let tasks2 = b.tasks in
     record {
       is = λ exits.
           ap (λ c. filled c h exits) code3
           ∙ filled_set s2.code at (j (place_of s0)) (length s1.code) (length s2.code) h exits (omega (arith, is_at, long1)) b.within
           ∙ set_at_seam (filled s2.code h exits) s0.code i (body.from (moved 1 (place_of s0)) exits) at (j (place_of s0))
-            (b.is exits ∙ ap (λ p. s1.code ++ body.from p exits) place1 ∙ ap (λ c. c ++ body.from (moved 1 (place_of s0)) exits) code1 ∙ append_assoc s0.code (i ∷ []) (body.from (moved 1 (place_of s0)) exits))
-            is_at;
+          (b.is exits ∙ ap (λ p. s1.code ++ body.from p exits) place1 ∙ ap (λ c. c ++ body.from (moved 1 (place_of s0)) exits) code1 ∙ append_assoc s0.code (i ∷ []) (body.from (moved 1 (place_of s0)) exits))
+          is_at;
       long = omega (arith, long1, long2, long3);
       within = within_wider (length s1.code) (length s2.code) (length s0.code) (length s3.code) h (omega (arith, long1)) (omega (arith, long3)) b.within;
       tasks = omega (arith, tasks1, tasks2, tasks3);
@@ -206,13 +205,13 @@ pass_emitted c test update body again s0 s1 s2 s3 s4 s5 t b u et en eb eu ej =
     let none : Emits (in_order []) s5 s5 [] = code_emitted nothing s5 s5 (nothing_pushed s5.code) refl refl in
     let e5 : Emits (in_order (of_instructions jumps ∷ [])) s4 s5 ([] ++ []) = then_emitted (of_instructions jumps) (in_order []) s4 s5 s5 [] [] ej none in
     let e4 : Emits (in_order (in_order update ∷ of_instructions jumps ∷ [])) s3 s5 (u ++ ([] ++ [])) =
-        then_emitted (in_order update) (in_order (of_instructions jumps ∷ [])) s3 s4 s5 u ([] ++ []) eu e5 in
+    then_emitted (in_order update) (in_order (of_instructions jumps ∷ [])) s3 s4 s5 u ([] ++ []) eu e5 in
     let e3 : Emits (in_order (body ∷ in_order update ∷ of_instructions jumps ∷ [])) s2 s5 (b ++ (u ++ ([] ++ []))) =
-        then_emitted body (in_order (in_order update ∷ of_instructions jumps ∷ [])) s2 s3 s5 b (u ++ ([] ++ [])) eb e4 in
+    then_emitted body (in_order (in_order update ∷ of_instructions jumps ∷ [])) s2 s3 s5 b (u ++ ([] ++ [])) eb e4 in
     let e2 : Emits (in_order (of_instructions turns ∷ body ∷ in_order update ∷ of_instructions jumps ∷ [])) s1 s5 ([] ++ (b ++ (u ++ ([] ++ [])))) =
-        then_emitted (of_instructions turns) (in_order (body ∷ in_order update ∷ of_instructions jumps ∷ [])) s1 s2 s5 [] (b ++ (u ++ ([] ++ []))) en e3 in
+    then_emitted (of_instructions turns) (in_order (body ∷ in_order update ∷ of_instructions jumps ∷ [])) s1 s2 s5 [] (b ++ (u ++ ([] ++ []))) en e3 in
     let e1 : Emits (pass c test update body again) s0 s5 (t ++ ([] ++ (b ++ (u ++ ([] ++ []))))) =
-        then_emitted (tested c test) (in_order (of_instructions turns ∷ body ∷ in_order update ∷ of_instructions jumps ∷ [])) s0 s1 s5 t ([] ++ (b ++ (u ++ ([] ++ [])))) et e2 in
+    then_emitted (tested c test) (in_order (of_instructions turns ∷ body ∷ in_order update ∷ of_instructions jumps ∷ [])) s0 s1 s5 t ([] ++ (b ++ (u ++ ([] ++ [])))) et e2 in
     let P : List Hole → Type 0 = λ holes. Emits (pass c test update body again) s0 s5 holes in
     subst P (five_holes t b u) e1
 
@@ -262,8 +261,8 @@ assoc_emitted a b p s0 s1 h e =
       is = λ exits.
           e.is exits
           ∙ ap (λ is. s0.code ++ is)
-            (append_assoc (a.from at exits) (b.from (behind_piece at a) exits) (p.from (behind_piece at (then_piece a b)) exits)
-             ∙ ap (λ q. a.from at exits ++ (b.from (behind_piece at a) exits ++ p.from q exits)) (sym (behind_both at a b)));
+          (append_assoc (a.from at exits) (b.from (behind_piece at a) exits) (p.from (behind_piece at (then_piece a b)) exits)
+          ∙ ap (λ q. a.from at exits ++ (b.from (behind_piece at a) exits ++ p.from q exits)) (sym (behind_both at a b)));
       long = omega (arith, long);
       within = e.within;
       tasks = omega (arith, tasks);

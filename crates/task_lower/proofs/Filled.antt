@@ -1,5 +1,5 @@
 -- Jumps that get their targets late.
-use Rattle.std.proofs.Common.{◌≡◌, ◌≢◌, ℕ, zero, suc, ◌+◌, ◌<◌, ◌≤◌, List, [], ◌∷◌, ◌++◌, length, slice_set, refl, sym, ap, ◌∙◌, arith}
+use Rattle.std.proofs.Common.{◌≡◌, ◌≢◌, ℕ, zero, suc, ◌<◌, ◌≤◌, List, [], ◌∷◌, ◌++◌, length, slice_set, refl, ap, ◌∙◌, arith}
 use Rattle.flat_code.specs.declared.graph.Instr.{Instr}
 use Rattle.body_code.specs.StatementCode.{Exits}
 use Rattle.task_lower.specs.declared.draft.Hole.{Hole}

@@ -1,5 +1,5 @@
 -- Which statements of a list complete, from the first one on.
-use Rattle.std.proofs.Common.{◌≡◌, Bool, true, false, ◌||◌, List, [], ◌∷◌, refl}
+use Rattle.std.proofs.Common.{◌≡◌, Bool, true, List, [], ◌∷◌, refl}
 use Rattle.body_code.specs.Completing.{Leaving, completing}
 
 -- whether a list completes where what stands before it does or doesn't

@@ -48,9 +48,9 @@ pub listed_types : (c : Context) (xs more : List Expression) (x : Expression) (t
 listed_types c xs more x types new found is_more is_types is_found is_new =
     is_new ∙ ap (λ ts. snoc_type ts found) is_types ∙ ap (snoc_type (all_types (types_in c xs))) is_found
     ∙ sym (ap (λ ys. all_types (types_in c ys)) is_more
-           ∙ ap (λ (ls : List Lowered). all_types (map (λ a. a.type) ls)) (mapped_more (lowered c) xs x)
-           ∙ ap all_types (mapped_more (λ (a : Lowered). a.type) (map (lowered c) xs) (lowered c x))
-           ∙ types_more (types_in c xs) (lowered c x).type)
+    ∙ ap (λ (ls : List Lowered). all_types (map (λ a. a.type) ls)) (mapped_more (lowered c) xs x)
+    ∙ ap all_types (mapped_more (λ (a : Lowered). a.type) (map (lowered c) xs) (lowered c x))
+    ∙ types_more (types_in c xs) (lowered c x).type)
 
 pub listed_codes : (c : Context) (xs more : List Expression) (x : Expression) (s0 s1 s2 : List Instr) → more ≡ xs ++ x ∷ [] → Pushes (all_of (codes_in c xs)) s0 s1 → Pushes (lowered c x).code s1 s2
     → Pushes (all_of (codes_in c more)) s0 s2
@@ -58,8 +58,8 @@ listed_codes c xs more x s0 s1 s2 is_more p q =
     let P : List Code → Type 0 = λ cs. Pushes (all_of cs) s0 s2 in
     subst P
     (sym (ap (codes_in c) is_more
-          ∙ ap (λ (ls : List Lowered). map (λ a. a.code) ls) (mapped_more (lowered c) xs x)
-          ∙ mapped_more (λ (a : Lowered). a.code) (map (lowered c) xs) (lowered c x)))
+    ∙ ap (λ (ls : List Lowered). map (λ a. a.code) ls) (mapped_more (lowered c) xs x)
+    ∙ mapped_more (λ (a : Lowered). a.code) (map (lowered c) xs) (lowered c x)))
     (snoc_pushed (codes_in c xs) (lowered c x).code s0 s1 s2 p q)
 
 pub lowered_call : (c : Context) (m : ℕ) (args : List Expression) → (lowered c (x.Call m args)).type ≡ called_type (slice_get c.methods m) (all_types (types_in c args))

@@ -1,5 +1,5 @@
 -- Statements as the pieces that they are.
-use Rattle.std.proofs.Common.{◌≡◌, ℕ, ◌+◌, List, [], ◌∷◌, ◌++◌, length, map, Option, None, Some, refl, sym, ap, subst, ◌∙◌}
+use Rattle.std.proofs.Common.{◌≡◌, List, [], ◌∷◌, ◌++◌, map, Option, sym, ap, subst, ◌∙◌}
 use Rattle.std.proofs.lemmas.List.{append-nil}
 use Rattle.access_blocks.specs.declared.body.Expression.{Expression}
 use Rattle.access_blocks.specs.declared.body.Statement.{Statement}
@@ -24,10 +24,10 @@ loop_emitted scope start test update body st s0 s1 s2 h is a b =
     let Q : List Hole → Type 0 = λ holes. Emits (piece_of scope st) s0 s2 holes in
     subst Q (append-nil h)
     (subst P
-     (sym (ap (piece_of scope) is
-           ∙ ap (piece_of scope) (sym (statement.rolls-Loop start test update body))
-           ∙ fold-roll-Statement Piece (piece_step scope) (s.Loop start test update body)))
-     both)
+    (sym (ap (piece_of scope) is
+    ∙ ap (piece_of scope) (sym (statement.rolls-Loop start test update body))
+    ∙ fold-roll-Statement Piece (piece_step scope) (s.Loop start test update body)))
+    both)
 
 pub listed_emitted : (scope : Scope) (xs more : List Statement) (x : Statement) (s0 s1 s2 : Draft) (h g holes : List Hole) → more ≡ xs ++ x ∷ [] → holes ≡ h ++ g
     → Emits (in_order (map (piece_of scope) xs)) s0 s1 h → Emits (piece_of scope x) s1 s2 g → Emits (in_order (map (piece_of scope) more)) s0 s2 holes

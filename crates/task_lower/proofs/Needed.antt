@@ -1,5 +1,5 @@
 -- What a conditional needs.
-use Rattle.std.proofs.Common.{◌≡◌, ℕ, List, ◌++◌, sym, ap, ◌∙◌}
+use Rattle.std.proofs.Common.{◌≡◌, ◌++◌, sym, ap, ◌∙◌}
 use Rattle.access_blocks.specs.declared.body.Expression.{Expression, fold-roll-Expression}
 use Rattle.access_blocks.specs.declared.body.Expression.TheVariants as x
 use Rattle.access_blocks.specs.declared.body.Expression.TheOpen as e

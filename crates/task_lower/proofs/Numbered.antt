@@ -1,5 +1,5 @@
 -- Methods one after the other, each with the tasks behind those of the one before.
-use Rattle.std.proofs.Common.{◌≡◌, ℕ, zero, suc, ◌+◌, ◌-◌, ◌<◌, ◌≤◌, take, List, [], ◌∷◌, ◌++◌, length, drop, get_or, refl, sym, ap, ◌∙◌, append_assoc, arith}
+use Rattle.std.proofs.Common.{◌≡◌, ℕ, ◌+◌, ◌-◌, ◌<◌, ◌≤◌, take, List, [], ◌∷◌, ◌++◌, length, drop, get_or, sym, ap, ◌∙◌, append_assoc, arith}
 use Rattle.java_tree.specs.declared.tree.Member.{Member}
 use Rattle.java_tree.specs.declared.tree.Member.TheVariants as member
 use Rattle.java_tree.specs.declared.tree.Method.{Method}
@@ -21,7 +21,7 @@ with_method fields callees members i x m all all_2 rest rest_2 b task task_2 who
     let one = graph_method fields callees m b task in
     let here : drop i members ≡ member.Method m ∷ drop (i + 1) members = dropped members i x h ∙ ap (λ (y : Member). y ∷ drop (i + 1) members) (sym is ∙ is_method) in
     let now : graph_methods fields callees (methods_in (drop i members)) rest task ≡ one ∷ graph_methods fields callees ms rest_2 (task + tasks_of fields callees b) =
-        ap (λ (xs : List Member). graph_methods fields callees (methods_in xs) rest task) here ∙ ap (λ (bs : List Body). graph_methods fields callees (m ∷ ms) bs task) is_rest in
+    ap (λ (xs : List Member). graph_methods fields callees (methods_in xs) rest task) here ∙ ap (λ (bs : List Body). graph_methods fields callees (m ∷ ms) bs task) is_rest in
     ap (λ (xs : List GraphMethod). xs ++ graph_methods fields callees ms rest_2 task_2) is_all
     ∙ append_assoc all (one ∷ []) (graph_methods fields callees ms rest_2 task_2)
     ∙ ap (λ n. all ++ (one ∷ graph_methods fields callees ms rest_2 n)) is_task

@@ -1,10 +1,10 @@
 -- Code behind code.
-use Rattle.std.proofs.Common.{◌≡◌, ℕ, zero, suc, ◌+◌, true, false, List, [], ◌∷◌, ◌++◌, length, map, slice_set, refl, sym, ap, subst, ◌∙◌, append_assoc, length-append, arith}
+use Rattle.std.proofs.Common.{◌≡◌, ℕ, ◌+◌, List, [], ◌∷◌, ◌++◌, length, slice_set, refl, sym, ap, ◌∙◌, append_assoc, length-append, arith}
 use Rattle.std.proofs.lemmas.List.{append-nil}
 use Rattle.flat_code.specs.declared.graph.Instr.{Instr}
 use Rattle.flat_code.specs.declared.graph.Instr.TheVariants as instr
 use Rattle.body_code.specs.Codes.{Code, plain, nothing, followed_by, all_of}
-use Rattle.body_code.specs.ExpressionCode.{either, behind}
+use Rattle.body_code.specs.ExpressionCode.{either}
 use Rattle.task_lower.specs.Pushing.{Pushes}
 
 pub nothing_pushed : (s : List Instr) → Pushes nothing s s
@@ -37,15 +37,16 @@ snoc_pushed cs c s0 s1 s2 p q =
       long = let size = snoc_size cs c in omega (arith, at, more, size);
     }
   where
-  snoc_from : (cs : List Code) (c : Code) (at : ℕ) → (all_of (cs ++ c ∷ [])).from at ≡ (all_of cs).from at ++ c.from (at + (all_of cs).size)
-  snoc_from [] c at = append-nil (c.from at) ∙ ap (λ n. c.from n) (let e : at ≡ at + 0 = omega arith in e)
-  snoc_from (d ∷ cs) c at =
-      ap (λ is. d.from at ++ is) (snoc_from cs c (at + d.size))
-      ∙ sym (append_assoc (d.from at) ((all_of cs).from (at + d.size)) (c.from (at + d.size + (all_of cs).size)))
-      ∙ ap (λ n. (d.from at ++ (all_of cs).from (at + d.size)) ++ c.from n) (let e : at + d.size + (all_of cs).size ≡ at + (d.size + (all_of cs).size) = omega arith in e)
-  snoc_size : (cs : List Code) (c : Code) → (all_of (cs ++ c ∷ [])).size ≡ (all_of cs).size + c.size
-  snoc_size [] c = omega arith
-  snoc_size (d ∷ cs) c = let e = snoc_size cs c in omega (arith, e)
+    snoc_from : (cs : List Code) (c : Code) (at : ℕ) → (all_of (cs ++ c ∷ [])).from at ≡ (all_of cs).from at ++ c.from (at + (all_of cs).size)
+    snoc_from [] c at = append-nil (c.from at) ∙ ap (λ n. c.from n) (let e : at ≡ at + 0 = omega arith in e)
+    snoc_from (d ∷ cs) c at =
+        ap (λ is. d.from at ++ is) (snoc_from cs c (at + d.size))
+        ∙ sym (append_assoc (d.from at) ((all_of cs).from (at + d.size)) (c.from (at + d.size + (all_of cs).size)))
+        ∙ ap (λ n. (d.from at ++ (all_of cs).from (at + d.size)) ++ c.from n) (let e : at + d.size + (all_of cs).size ≡ at + (d.size + (all_of cs).size) = omega arith in e)
+
+    snoc_size : (cs : List Code) (c : Code) → (all_of (cs ++ c ∷ [])).size ≡ (all_of cs).size + c.size
+    snoc_size [] c = omega arith
+    snoc_size (d ∷ cs) c = let e = snoc_size cs c in omega (arith, e)
 
 pub two_pushed : (i j : Instr) (s0 s1 s2 : List Instr) → s1 ≡ s0 ++ i ∷ [] → s2 ≡ s1 ++ j ∷ [] → Pushes (plain (i ∷ j ∷ [])) s0 s2
 two_pushed i j s0 s1 s2 e f = pushed (i ∷ j ∷ []) s0 s2 (f ∙ ap (λ s. s ++ j ∷ []) e ∙ append_assoc s0 (i ∷ []) (j ∷ []))
@@ -82,15 +83,15 @@ either_pushed a b s0 s1 s2 s3 s4 s5 s6 to_second to_end i j at_second is1 p at_e
     let first = instr.IfFalse (n + a.size + 2) in
     let to3 : length s3 + 0 ≡ n + a.size + 2 = omega (arith, long3) in
     let whole4 : s4 ≡ s0 ++ first ∷ (code_a ++ j ∷ []) =
-        is4 ∙ ap (λ k. slice_set s3 to_second (instr.IfFalse k)) to3 ∙ set_at_seam s3 s0 i (code_a ++ j ∷ []) to_second first whole3 at_second in
+    is4 ∙ ap (λ k. slice_set s3 to_second (instr.IfFalse k)) to3 ∙ set_at_seam s3 s0 i (code_a ++ j ∷ []) to_second first whole3 at_second in
     let long4 : length s4 ≡ n + a.size + 2 =
-        let l4 = ap length whole4 ∙ length-append s0 (first ∷ (code_a ++ j ∷ [])) in let l3 = ap length whole3 ∙ length-append s0 (i ∷ (code_a ++ j ∷ [])) in omega (arith, l4, l3, long3) in
+    let l4 = ap length whole4 ∙ length-append s0 (first ∷ (code_a ++ j ∷ [])) in let l3 = ap length whole3 ∙ length-append s0 (i ∷ (code_a ++ j ∷ [])) in omega (arith, l4, l3, long3) in
     let front = s0 ++ first ∷ code_a in
     let front4 : s4 ≡ front ++ j ∷ [] = whole4 ∙ sym (append_assoc s0 (first ∷ code_a) (j ∷ [])) in
     let whole5 : s5 ≡ front ++ j ∷ code_b = q.is ∙ ap (λ k. s4 ++ b.from k) long4 ∙ ap (λ s. s ++ code_b) front4 ∙ snoc_assoc front j code_b in
     let long5 : length s5 ≡ n + a.size + b.size + 2 = let l = q.long in omega (arith, l, long4) in
     let long_front : to_end ≡ length front =
-        let l2 = ap length is2 ∙ length-append s0 (i ∷ code_a) in let l = length-append s0 (first ∷ code_a) in omega (arith, l2, l, at_end) in
+    let l2 = ap length is2 ∙ length-append s0 (i ∷ code_a) in let l = length-append s0 (first ∷ code_a) in omega (arith, l2, l, at_end) in
     let last = instr.Jump (n + a.size + b.size + 2) in
     let whole6 : s6 ≡ front ++ last ∷ code_b = is6 ∙ ap (λ k. slice_set s5 to_end (instr.Jump k)) long5 ∙ set_at_seam s5 front j code_b to_end last whole5 long_front in
     record {

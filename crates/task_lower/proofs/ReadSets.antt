@@ -1,7 +1,7 @@
 -- Numbers in lists and in sets.
 use Rattle.std.proofs.Common.{◌≡◌, ◌≤◌, ◌<◌, ◌+◌, zero, suc, length, drop, get_or, ℕ, Bool, true, false, ◌||◌, nat_eq, nat_lt, cond, if◌then◌else◌, List, [], ◌∷◌, ◌++◌, map, refl, sym, ap, ◌∙◌, append_assoc, arith}
 use Rattle.std.proofs.lemmas.List.Folds.{list_any-append}
-use Rattle.std.specs.List.{list_any, range_with_len}
+use Rattle.std.specs.List.{range_with_len}
 use Rattle.std.proofs.Math.Seq.{drop-cons}
 use Rattle.std.proofs.lemmas.Bool.Decides.{nat_tests}
 use Rattle.std.specs.HashSet.{HashSet, contains}
@@ -56,7 +56,7 @@ pub noted_behind_key : (more : List ℕ) (all : List spec.Assigned) (key : ℕ �
 noted_behind_key more [] key same = refl
 noted_behind_key more (a ∷ all) key same =
     ap (λ (b : Bool). (let x : Assigned = record { variable = a.variable; is_read = b } in x) ∷ map (with_key key) (map noted all))
-      (ap (λ b. b || is_in a.variable a.reads) (same a.variable) ∙ sym (is_in_both a.variable more a.reads))
+    (ap (λ b. b || is_in a.variable a.reads) (same a.variable) ∙ sym (is_in_both a.variable more a.reads))
     ∙ ap (λ rest. noted (spec.with_reads more a) ∷ rest) (noted_behind_key more all key same)
 
 -- Only which variables were assigned before matters.
@@ -66,15 +66,15 @@ early_same f g (a ∷ all) same =
     ap (λ (b : Bool). if b then early_by f all else if a.is_read then a.variable ∷ early_by (also a.variable f) all else early_by (also a.variable f) all) (same a.variable)
     ∙ ap (λ (es : List ℕ). if g a.variable then es else if a.is_read then a.variable ∷ early_by (also a.variable f) all else early_by (also a.variable f) all) (early_same f g all same)
     ∙ ap (λ (es : List ℕ). if g a.variable then early_by g all else if a.is_read then a.variable ∷ es else es)
-      (early_same (also a.variable f) (also a.variable g) all (λ v. ap (λ b. nat_eq a.variable v || b) (same v)))
+    (early_same (also a.variable f) (also a.variable g) all (λ v. ap (λ b. nat_eq a.variable v || b) (same v)))
 
 pub early_is : (seen : List ℕ) (all : List spec.Assigned) → early_by (λ v. is_in v seen) (map noted all) ≡ spec.early_after seen all
 early_is seen [] = refl
 early_is seen (a ∷ all) =
     ap (λ (es : List ℕ). if is_in a.variable seen then es else if is_in a.variable a.reads then a.variable ∷ early_by (also a.variable (λ v. is_in v seen)) (map noted all) else early_by (also a.variable (λ v. is_in v seen)) (map noted all)) (early_is seen all)
     ∙ ap (λ (es : List ℕ). if is_in a.variable seen then spec.early_after seen all else if is_in a.variable a.reads then a.variable ∷ es else es)
-      (early_same (also a.variable (λ v. is_in v seen)) (λ v. is_in v (a.variable ∷ seen)) (map noted all) (λ v. ap (λ b. b || is_in v seen) (same_either_way a.variable v))
-       ∙ early_is (a.variable ∷ seen) all)
+    (early_same (also a.variable (λ v. is_in v seen)) (λ v. is_in v (a.variable ∷ seen)) (map noted all) (λ v. ap (λ b. b || is_in v seen) (same_either_way a.variable v))
+    ∙ early_is (a.variable ∷ seen) all)
 
 with_first : (seen is_read : Bool) (v : ℕ) (early early_2 same others : List ℕ) → seen ≡ false → early_2 ≡ (if is_read then early ++ v ∷ [] else early)
     → early_2 ++ others ≡ early ++ (if seen then same else if is_read then v ∷ others else others)
@@ -103,9 +103,9 @@ notes_first arity a seen seen_2 early early_2 e p q =
     record {
       rest = λ others.
           ap (λ (es : List ℕ). early_2 ++ es)
-            (early_same g (also a.variable f) others
-             (λ v. ap (λ b. nat_lt v arity || b) (p.each v ∙ ap (λ b. b || contains nat_eq seen v) (is_in_one v a.variable ∙ same_either_way v a.variable))
-                   ∙ or_moves (nat_lt v arity) (nat_eq a.variable v) (contains nat_eq seen v)))
+          (early_same g (also a.variable f) others
+          (λ v. ap (λ b. nat_lt v arity || b) (p.each v ∙ ap (λ b. b || contains nat_eq seen v) (is_in_one v a.variable ∙ same_either_way v a.variable))
+          ∙ or_moves (nat_lt v arity) (nat_eq a.variable v) (contains nat_eq seen v)))
           ∙ with_first (f a.variable) a.is_read a.variable early early_2 (early_by f others) (early_by (also a.variable f) others) e q;
     }
 
@@ -124,7 +124,7 @@ in_range (suc n) a v h = range_goes_on a v n (is_in v (range_with_len (a + 1) n)
 pub early_from_start : (arity : ℕ) (all : List spec.Assigned) → early_by (λ v. nat_lt v arity) (map noted all) ≡ spec.early_after (range_with_len 0 arity) all
 early_from_start arity all =
     early_same (λ v. nat_lt v arity) (λ v. is_in v (range_with_len 0 arity)) (map noted all)
-      (λ v. sym (in_range arity 0 v (omega arith) ∙ ap (λ n. nat_lt v n) (let e : 0 + arity ≡ arity = omega arith in e)))
+    (λ v. sym (in_range arity 0 v (omega arith) ∙ ap (λ n. nat_lt v n) (let e : 0 + arity ≡ arity = omega arith in e)))
     ∙ early_is (range_with_len 0 arity) all
 
 pub dropped : {A : Type 0} (xs : List A) (i : ℕ) (d : A) → i < length xs → drop i xs ≡ get_or xs i d ∷ drop (i + 1) xs

@@ -1,5 +1,5 @@
 -- The types of so many first variables.
-use Rattle.std.proofs.Common.{◌≡◌, ℕ, zero, suc, ◌≤◌, List, [], ◌∷◌, length, map, take, min, refl, sym, ap, ◌∙◌, arith}
+use Rattle.std.proofs.Common.{◌≡◌, ℕ, zero, suc, ◌≤◌, List, [], ◌∷◌, length, map, take, min, refl, ap, arith}
 use Rattle.sdg_base.specs.declared.value_type.ValueType.{ValueType}
 use Rattle.java_tree.specs.declared.types.ValueType.{ValueType as VariableType}
 use Rattle.body_code.specs.Typing.{type_by}

@@ -1,13 +1,13 @@
 -- The type beside the code of an expression is the type of the expression.
-use Rattle.std.proofs.Common.{◌≡◌, List, [], ◌∷◌, map, Option, None, Some, refl, ap, subst, sym, ◌∙◌}
+use Rattle.std.proofs.Common.{◌≡◌, List, [], ◌∷◌, map, Option, refl, ap, subst, sym, ◌∙◌}
 use Rattle.sdg_base.specs.declared.value_type.ValueType.{ValueType}
 use Rattle.access_blocks.specs.declared.body.Expression.{Expression, roll-Expression}
 use Rattle.access_blocks.specs.declared.body.Expression.TheOpen.{Expression-F}
 use Rattle.access_blocks.specs.declared.body.Expression.TheOpen as e
 use Rattle.access_blocks.specs.declared.body.Expression.TheFolds.{fold-roll-Expression, ind-Expression, map-Expression}
-use Rattle.body_code.specs.Codes.{Code, all_of}
+use Rattle.body_code.specs.Codes.{Code}
 use Rattle.body_code.specs.Typing.{Context, type_step, type_of}
-use Rattle.body_code.specs.ExpressionCode.{Lowered, lowered, lowered_step, code_of, codes_of}
+use Rattle.body_code.specs.ExpressionCode.{Lowered, lowered, lowered_step, code_of}
 
 abbrev IsTyped : Context → Expression → Type 0
 IsTyped c x = (lowered c x).type ≡ type_of c x

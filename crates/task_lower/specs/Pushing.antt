@@ -1,5 +1,5 @@
 -- What one part of the code of an expression adds.
-use Rattle.std.specs.Prelude.{◌≡◌, ℕ, ◌+◌, List, [], ◌∷◌, ◌++◌, length, Option, Some, None}
+use Rattle.std.specs.Prelude.{◌≡◌, ◌+◌, List, [], ◌∷◌, ◌++◌, length, Option, Some, None}
 use Rattle.sdg_base.specs.declared.value_type.ValueType.{ValueType}
 use Rattle.flat_code.specs.declared.graph.Instr.{Instr}
 use Rattle.body_code.specs.Codes.{Code}

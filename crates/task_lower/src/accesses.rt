@@ -219,11 +219,7 @@ fn visit(
 ) -> Result<(), AllocError>
     ensures { OnOk result (Emits (spec.visit scope.now gather.now) draft.old draft.new []) }
 {
-    load_arguments(
-        &mut draft.code,
-        draft.variables.len(),
-        gather.args.len(),
-    )?;
+    load_arguments(&mut draft.code, draft.variables.len(), gather.args.len())?;
     access_field(alloc, scope, &mut draft.code, gather.field, gather.method)?;
     push(&mut draft.code, Instr::Part(draft.tasks))?;
     declare_arguments(
@@ -244,13 +240,7 @@ pub fn gather(
     ensures { OnOk result (Emits (spec.gather scope.now gather.now) draft.old draft.new []) }
 {
     let first = draft.variables.len();
-    store_arguments(
-        alloc,
-        scope,
-        &mut draft.code,
-        gather.args.as_slice(),
-        first,
-    )?;
+    store_arguments(alloc, scope, &mut draft.code, gather.args.as_slice(), first)?;
     cut(draft)?;
     visit(alloc, scope, draft, gather)?;
     Ok(())

@@ -113,11 +113,7 @@ fn callee(alloc: Global, method: &Method, body: &Body) -> Result<Callee, AllocEr
 }
 
 /// Each method as its callers know it.
-fn callees(
-    alloc: Global,
-    members: &[Member],
-    bodies: &[Body],
-) -> Result<Items<Callee>, AllocError>
+fn callees(alloc: Global, members: &[Member], bodies: &[Body]) -> Result<Items<Callee>, AllocError>
     ensures { IfOk result (λ all. all ≡ spec.callees (methods_in members.now) bodies.now) }
 {
     let mut all = Items::new(alloc);
@@ -230,9 +226,5 @@ fn code_of_class(alloc: Global, class: &Class, program: &Program) -> Result<Flat
 pub fn lower(alloc: Global, marked: &Marked) -> Result<Flat, AllocError>
     ensures { IfOk result (λ flat. flat ≡ spec.flat_of marked.now) }
 {
-    code_of_class(
-        alloc,
-        &marked.annotated.typed.class,
-        &marked.program,
-    )
+    code_of_class(alloc, &marked.annotated.typed.class, &marked.program)
 }

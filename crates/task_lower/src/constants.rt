@@ -117,7 +117,11 @@ fn constant_of(e: &Expression) -> Constant
         Expression::Binary(op, a, b) => operated(*op, constant_of(a.get()), constant_of(b.get())),
         Expression::Cast(to, a) => converted(*to, constant_of(a.get())),
         Expression::Conditional(test, a, b) => {
-            chosen(constant_of(test.get()), constant_of(a.get()), constant_of(b.get()))
+            chosen(
+                constant_of(test.get()),
+                constant_of(a.get()),
+                constant_of(b.get()),
+            )
         }
         Expression::Nothing
         | Expression::Variable(_)

@@ -51,11 +51,7 @@ fn behind_key(
 
 /// The variables that a statement assigns, in text order.
 #[cycle(assigning)]
-fn note_assigned(
-    alloc: Global,
-    all: &mut Items<Assigned>,
-    st: &Statement,
-) -> Result<(), AllocError>
+fn note_assigned(alloc: Global, all: &mut Items<Assigned>, st: &Statement) -> Result<(), AllocError>
     ensures { OnOk result (all.new ≡ all.old ++ map noted (spec.assigned_in st.now)) }
 {
     match st {
@@ -166,11 +162,7 @@ fn assign(
 }
 
 /// Those that are read for their own first value.
-fn early_in(
-    alloc: Global,
-    arity: usize,
-    all: &[Assigned],
-) -> Result<Items<usize>, AllocError>
+fn early_in(alloc: Global, arity: usize, all: &[Assigned]) -> Result<Items<usize>, AllocError>
     ensures { IfOk result (λ early. early ≡ early_by (λ v. nat_lt v arity) all.now) }
 {
     let mut seen: HashSet<usize> = HashSet::new(alloc);

@@ -7,7 +7,9 @@ ghost use Rattle.body_code.specs.Codes.{plain, followed_by, all_of};
 ghost use Rattle.body_code.specs.ExpressionCode as spec;
 ghost use Rattle.task_lower.specs.Pushing.{Pushes};
 
-use crate::instructions::{branch, branch_behind, leave, leave_behind, narrow, narrower, push, push_two};
+use crate::instructions::{
+    branch, branch_behind, leave, leave_behind, narrow, narrower, push, push_two,
+};
 use crate::scope::Scope;
 use crate::types::{
     and_then, binary_by, called_type, cast_type, chosen_type, merged_type, operand_of, unary_by,
@@ -107,7 +109,6 @@ pub fn expression(
         }
     }
 }
-
 
 #[cycle(lowering)]
 fn unary(

@@ -46,11 +46,7 @@ pub fn push(code: &mut Items<Instr>, instr: Instr) -> Result<(), AllocError>
 
 /// Two instructions more.
 #[tactic(auto, using(crate::proofs::Pushed::two_pushed))]
-pub fn push_two(
-    code: &mut Items<Instr>,
-    first: Instr,
-    second: Instr,
-) -> Result<(), AllocError>
+pub fn push_two(code: &mut Items<Instr>, first: Instr, second: Instr) -> Result<(), AllocError>
     ensures { OnOk result (Pushes (plain (first ∷ second ∷ [])) code.old code.new) }
 {
     code.push(first)?;

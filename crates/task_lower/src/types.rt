@@ -61,11 +61,7 @@ fn same_type(left: ValueType, right: ValueType) -> bool
 }
 
 /// A type, where an operand has the one that is taken.
-pub fn where_type(
-    found: Option<ValueType>,
-    taken: ValueType,
-    given: ValueType,
-) -> Option<ValueType>
+pub fn where_type(found: Option<ValueType>, taken: ValueType, given: ValueType) -> Option<ValueType>
     ensures { result ≡ spec.where_type found taken given }
 {
     match found {
@@ -91,11 +87,7 @@ pub fn unary_by(op: UnOp, operand: Option<ValueType>) -> Option<ValueType>
 }
 
 /// The type of a binary operator's value.
-pub fn binary_by(
-    op: BinOp,
-    left: Option<ValueType>,
-    right: Option<ValueType>,
-) -> Option<ValueType>
+pub fn binary_by(op: BinOp, left: Option<ValueType>, right: Option<ValueType>) -> Option<ValueType>
     ensures { result ≡ spec.of_two (types.binary_type op) left right }
 {
     match (left, right) {
@@ -180,10 +172,7 @@ fn same_types(left: &[ValueType], right: &[ValueType]) -> bool
 }
 
 /// The type of a call of a method on arguments of these types.
-pub fn called_type(
-    method: Option<&Callee>,
-    args: &Option<Items<ValueType>>,
-) -> Option<ValueType>
+pub fn called_type(method: Option<&Callee>, args: &Option<Items<ValueType>>) -> Option<ValueType>
     ensures { result ≡ spec.called_type (option_copied method.entry) args.now }
 {
     match (method, args) {

@@ -1,4 +1,4 @@
-use Rattle.std.proofs.Common.{◌≡◌, List, [], ◌∷◌, ◌++◌, map, ap, subst, ◌∙◌}
+use Rattle.std.proofs.Common.{List, [], ◌∷◌, ◌++◌, map, subst}
 use Rattle.sdg_base.specs.declared.value_type.ValueType.{ValueType}
 use Rattle.flat_code.specs.declared.graph.Instr.TheVariants as instr
 use Rattle.access_blocks.specs.declared.body.Expression.{Expression}

@@ -1,4 +1,4 @@
-use Rattle.std.proofs.Common.{◌≡◌, ℕ, List, length, refl, subst}
+use Rattle.std.proofs.Common.{ℕ, List, refl, subst}
 use Rattle.access_blocks.specs.declared.body.Expression.{Expression}
 use Rattle.body_code.specs.StatementCode.{stored_from}
 use Rattle.task_lower.specs.declared.draft.Draft.{Draft}

@@ -1,4 +1,4 @@
-use Rattle.std.proofs.Common.{◌≡◌, ◌+◌, arith}
+use Rattle.std.proofs.Common.{arith}
 use Rattle.task_lower.proofs.Carried.{loaded_more}
 use Rattle.task_lower.proofs.accesses.load_arguments.Goals as goal
 

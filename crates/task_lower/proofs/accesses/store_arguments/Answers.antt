@@ -1,4 +1,4 @@
-use Rattle.std.proofs.Common.{◌≡◌, ◌+◌, length, take, ap, sym, ◌∙◌, arith, length-take}
+use Rattle.std.proofs.Common.{◌≡◌, ◌+◌, length, take, arith, length-take}
 use Rattle.task_lower.proofs.Listed.{taken_more}
 use Rattle.task_lower.proofs.Carried.{stored_more}
 use Rattle.task_lower.proofs.accesses.store_arguments.Goals as goal

@@ -1,4 +1,4 @@
-use Rattle.std.proofs.Common.{◌≡◌, ◌++◌, ℕ, map, length, sym, ap, subst, ◌∙◌}
+use Rattle.std.proofs.Common.{◌++◌, map, length, ap, ◌∙◌}
 use Rattle.flat_code.specs.declared.graph.Instr.TheVariants as instr
 use Rattle.std.specs.List.{range_with_len}
 use Rattle.task_lower.proofs.Carried.{visit_emitted}

@@ -1,5 +1,4 @@
-use Rattle.std.proofs.Common.{◌≡◌, List, Option, ap, subst, sym, ◌∙◌}
-use Rattle.java_tree.specs.declared.types.ValueType.{ValueType as VariableType}
+use Rattle.std.proofs.Common.{List, ap, subst, ◌∙◌}
 use Rattle.access_blocks.specs.declared.body.Statement.{Statement}
 use Rattle.body_code.specs.Completing.{body_completes}
 use Rattle.body_code.specs.StatementCode.{pieces_of}
@@ -16,6 +15,6 @@ returns-clause-code c =
     let P : List Statement → Type 0 = λ ss. Emits (pieces_of scope ss) c.in_ok-draft.draft c.statements.new.draft c.in_ok-holes.holes in
     body_is c.args.fields.now c.args.methods.now b c.args.task scope c.in_ok-draft.draft c.statements.new.draft c.in_ok-holes.holes c.fill.new.code c.end.new.code c.body_completes.result
     (scope_is scope c.args.fields.now c.args.methods.now b.variables (members_of b.kind b.variables) c.new-scope.ensures.fields c.new-scope.ensures.methods (c.new-scope.ensures.variables ∙ vs)
-     (c.new-scope.ensures.members ∙ c.members_of.ensures ∙ ap (members_of b.kind) vs))
+    (c.new-scope.ensures.members ∙ c.members_of.ensures ∙ ap (members_of b.kind) vs))
     c.in_ok-draft.ensures.code c.in_ok-draft.ensures.place (subst P c.as_slice.ensures c.in_ok-holes.ensures) c.fill.ensures
     (c.body_completes.ensures ∙ ap body_completes c.as_slice-2.ensures) c.in_ok-end.ensures

@@ -21,7 +21,7 @@ loop-member-preserved c =
           let rest = c.loop-member.rest.now in
           let b = w.body-item.result in
           let is_rest : rest ≡ b ∷ c.match-member.rest.now =
-              first_body rest b (omega arith) w.body-item.is ∙ ap (λ (bs : List Body). b ∷ bs) (sym (ap (λ (r : Bor (List Body)). r.now) w.rest-is)) in
+          first_body rest b (omega arith) w.body-item.is ∙ ap (λ (bs : List Body). b ∷ bs) (sym (ap (λ (r : Bor (List Body)). r.now) w.rest-is)) in
           with_method c.args.fields.now c.args.callees.now c.args.members.now c.loop-member.member-index c.member-item.result w.in-Method.method c.loop-member.all c.match-member.all
           rest c.match-member.rest.now b c.loop-member.task c.match-member.task (graph_methods c.args.fields.now c.args.callees.now (methods_in c.args.members.now) c.args.bodies.now 0)
           (omega arith) c.member-item.is w.in-Method.is is_rest c.loop-member.invariant (w.all-is ∙ w.in_ok-task.ensures.method) (w.task-is ∙ w.in_ok-task.ensures.task)

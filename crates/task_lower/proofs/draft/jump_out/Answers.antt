@@ -1,4 +1,4 @@
-use Rattle.std.proofs.Common.{◌≡◌, List, [], ◌∷◌, ◌++◌, refl, sym, ap, subst, ◌∙◌}
+use Rattle.std.proofs.Common.{List, [], ◌∷◌, ◌++◌, refl, sym, ap, subst, ◌∙◌}
 use Rattle.task_lower.specs.declared.draft.Draft.{Draft}
 use Rattle.task_lower.specs.declared.draft.Hole.{Hole}
 use Rattle.task_lower.specs.Drafting.{Emits, exit_piece}

@@ -1,4 +1,4 @@
-use Rattle.std.proofs.Common.{◌≡◌, List, ◌++◌, map, nat_eq, ap, ◌∙◌}
+use Rattle.std.proofs.Common.{List, ◌++◌, map, nat_eq, ap, ◌∙◌}
 use Rattle.std.specs.HashSet.{contains}
 use Rattle.body_code.specs.Early as spec
 use Rattle.task_lower.specs.declared.early.Assigned.{Assigned}

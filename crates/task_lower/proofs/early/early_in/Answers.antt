@@ -1,4 +1,4 @@
-use Rattle.std.proofs.Common.{◌≡◌, ◌+◌, ◌++◌, ◌||◌, ℕ, List, drop, nat_eq, nat_lt, sym, ap, ◌∙◌, arith}
+use Rattle.std.proofs.Common.{◌+◌, ◌++◌, ◌||◌, ℕ, List, drop, nat_eq, nat_lt, sym, ap, ◌∙◌, arith}
 use Rattle.std.specs.HashSet.{contains}
 use Rattle.task_lower.specs.declared.early.Assigned.{Assigned}
 use Rattle.task_lower.specs.Early.{early_by}

@@ -1,4 +1,4 @@
-use Rattle.std.proofs.Common.{◌≡◌, ℕ, List, ◌++◌, sym, ap, subst, ◌∙◌}
+use Rattle.std.proofs.Common.{ℕ, List, ◌++◌, sym, ap, subst, ◌∙◌}
 use Rattle.access_blocks.specs.declared.body.Expression.{Expression}
 use Rattle.body_code.specs.Typing.{needs}
 use Rattle.task_lower.specs.Early.{AreAlso}
@@ -21,5 +21,5 @@ note_reads-returns-in_ok-note_reads-in-Conditional-3 t c =
     let W : List ℕ → Type 0 = λ vs. AreAlso vs s0 s3 in
     subst W (sym (ap (λ y. (needs y).variables) c.in-Conditional.is ∙ needs_conditional test a b))
     (also_both (needs test).variables ((needs a).variables ++ (needs b).variables) s0 s1 s3 (subst P c.get-in-Conditional.ensures c.in_ok-note_reads-in-Conditional.ensures)
-     (also_both (needs a).variables (needs b).variables s1 s2 s3 (subst Q c.get-in-Conditional-2.ensures c.in_ok-note_reads-in-Conditional-2.ensures)
-      (subst R c.get-in-Conditional-3.ensures c.in_ok-note_reads-in-Conditional-3.ensures)))
+    (also_both (needs a).variables (needs b).variables s1 s2 s3 (subst Q c.get-in-Conditional-2.ensures c.in_ok-note_reads-in-Conditional-2.ensures)
+    (subst R c.get-in-Conditional-3.ensures c.in_ok-note_reads-in-Conditional-3.ensures)))

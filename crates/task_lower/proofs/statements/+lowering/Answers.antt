@@ -1,4 +1,4 @@
-use Rattle.std.proofs.Common.{◌≡◌, ◌+◌, ℕ, Some, List, [], ◌∷◌, ◌++◌, length, map, take, refl, sym, ap, subst, ◌∙◌, arith}
+use Rattle.std.proofs.Common.{◌≡◌, ◌+◌, Some, List, [], ◌∷◌, ◌++◌, map, take, refl, sym, ap, subst, ◌∙◌, arith}
 use Rattle.access_blocks.specs.declared.body.Statement.{Statement}
 use Rattle.flat_code.specs.declared.graph.Instr.TheVariants as instr
 use Rattle.body_code.specs.Codes.{plain}
@@ -6,7 +6,7 @@ use Rattle.body_code.specs.ExpressionCode.{code_of}
 use Rattle.body_code.specs.StatementCode.{branches, of_code, key_code, in_order, next_pass, tested, passes, pass, piece_of}
 use Rattle.task_lower.specs.declared.draft.Draft.{Draft}
 use Rattle.task_lower.specs.declared.draft.Hole.{Hole}
-use Rattle.task_lower.specs.Drafting.{Emits, filled}
+use Rattle.task_lower.specs.Drafting.{Emits}
 use Rattle.task_lower.proofs.Listed.{taken_more}
 use Rattle.task_lower.proofs.Looped.{loop_emitted, listed_emitted}
 use Rattle.task_lower.proofs.Emitted.{code_emitted, guarded_emitted, jumped_emitted, pass_emitted, passes_emitted, marked_emitted, alone_emitted, else_emitted}
@@ -48,7 +48,7 @@ if_else-returns t c =
     let P : List Hole → Type 0 = λ holes. Emits (branches test first (Some second)) s0 c.jumped_over.new.draft holes in
     subst P (sym c.in_ok-append.ensures)
     (else_emitted test first second s0 s1 c.guarded.new.draft c.jumped_over.new.draft c.in_ok-holes.holes c.in_ok-later.later c.in_ok-expression.ensures.code refl refl c.in_ok-holes.ensures
-     c.in_ok-later.ensures)
+    c.in_ok-later.ensures)
 
 pub marked-returns : goal.marked-returns
 marked-returns t c =

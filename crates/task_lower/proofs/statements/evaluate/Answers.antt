@@ -1,4 +1,4 @@
-use Rattle.std.proofs.Common.{◌≡◌, Option, subst, ◌∙◌}
+use Rattle.std.proofs.Common.{Option, subst, ◌∙◌}
 use Rattle.sdg_base.specs.declared.value_type.ValueType.{ValueType}
 use Rattle.body_code.specs.Codes.{plain}
 use Rattle.body_code.specs.ExpressionCode.{code_of}

@@ -1,4 +1,4 @@
-use Rattle.std.proofs.Common.{◌≡◌, Option, Some, refl, sym, ap, subst, ◌∙◌}
+use Rattle.std.proofs.Common.{Option, Some, refl, sym, ap, subst, ◌∙◌}
 use Rattle.access_blocks.specs.declared.body.Expression.{Expression}
 use Rattle.body_code.specs.StatementCode.{tested}
 use Rattle.task_lower.specs.declared.draft.Draft.{Draft}
