@@ -1,0 +1,5 @@
+mod Values
+mod States
+mod Lists
+mod Running
+mod Sizes
