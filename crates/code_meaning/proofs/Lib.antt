@@ -3,3 +3,5 @@ mod States
 mod Lists
 mod Running
 mod Sizes
+mod Operands
+mod Expressions
