@@ -17,6 +17,7 @@ use Rattle.sdg_base.specs.declared.value_type.ValueType.TheVariants as type
 use Rattle.sdg_base.specs.Operations.{Answer, operation, unary_operation, converted}
 use Rattle.sdg_base.specs.Types as values
 use Rattle.sdg_base.specs.Types.{binary_type, unary_type}
+use Rattle.flat_code.specs.Types.{same_type}
 use Rattle.state_classes.specs.States.{State}
 use Rattle.flat_code.specs.declared.graph.Instr.{Instr}
 use Rattle.flat_code.specs.declared.graph.Instr.TheVariants as instr
@@ -94,3 +95,105 @@ module _ (s : Setting) (code : List Instr) (variables : List Val) (state : State
       → IsValue t → ValueHas (Some t) o → Evaluates s code 1 (frame at stack variables left) state (at + 1) under variables t (given o left)
   gives_one i None is does h has = absurd has
   gives_one i (Some v) is does h has = gives_value i v is does h has
+
+  -- a jump behind
+  pub jumps : {n at to : ℕ} {f : Frame} {stack : List Val} {t : ValueType} (x : Ended Val) → slice_get code at ≡ Some (instr.Jump to)
+      → Evaluates s code n f state at stack variables t x → Evaluates s code (n + 1) f state to stack variables t x
+  jumps (Gives v left) is q = record { does = (q.does.0, leads_on s code q.does.1 (one_step s code (instr.Jump _) is refl (omega arith))) }
+  jumps (Ends h) is q = record { does = stops_wider s code (omega arith) q.does }
+
+  -- ---- one of two
+
+  pub either_goes : (a b : Code) → IsSized a → IsSized b → (at left : ℕ) (stack : List Val) (t : ValueType) (holds : Bool) (x y : Ended Val) → IsLaid code at ((either a b).from at)
+      → (IsLaid code (at + 1) (a.from (at + 1)) → Evaluates s code a.size (frame (at + 1) stack variables left) state (at + 1 + a.size) stack variables t x)
+      → (IsLaid code (at + a.size + 2) (b.from (at + a.size + 2)) → Evaluates s code b.size (frame (at + a.size + 2) stack variables left) state (at + a.size + 2 + b.size) stack variables t y)
+      → Evaluates s code (a.size + b.size + 2) (frame at (val.Bool holds ∷ stack) variables left) state (at + (a.size + b.size + 2)) stack variables t (if holds then x else y)
+  either_goes a b ha hb at left stack t true x y laid first second =
+      let parts = laid_two code (suc at) a.size (a.from (at + 1)) (instr.Jump (at + a.size + b.size + 2) ∷ b.from (at + a.size + 2)) (ha (at + 1)) laid.1 in
+      let e1 : suc at ≡ at + 1 = omega arith in
+      let e2 : suc at + a.size ≡ at + 1 + a.size = omega arith in
+      let e3 : at + a.size + b.size + 2 ≡ at + (a.size + b.size + 2) = omega arith in
+      let test : Leads s code 1 (frame at (val.Bool true ∷ stack) variables left) state (frame (at + 1) stack variables left) state = leads_to s code e1 (one_step s code (instr.IfFalse (at + a.size + 2)) laid.0 refl (omega arith)) in
+      let jump : slice_get code (at + 1 + a.size) ≡ Some (instr.Jump (at + a.size + b.size + 2)) = subst (λ k. slice_get code k ≡ Some (instr.Jump (at + a.size + b.size + 2))) e2 parts.1.0 in
+      arrives e3 (wide x (omega arith) (onward x test (jumps x jump (first (subst (λ k. IsLaid code k (a.from (at + 1))) e1 parts.0)))))
+  either_goes a b ha hb at left stack t false x y laid first second =
+      let parts = laid_two code (suc at) a.size (a.from (at + 1)) (instr.Jump (at + a.size + b.size + 2) ∷ b.from (at + a.size + 2)) (ha (at + 1)) laid.1 in
+      let e2 : suc (suc at + a.size) ≡ at + a.size + 2 = omega arith in
+      let e3 : at + a.size + 2 + b.size ≡ at + (a.size + b.size + 2) = omega arith in
+      let test : Leads s code 1 (frame at (val.Bool false ∷ stack) variables left) state (frame (at + a.size + 2) stack variables left) state = one_step s code (instr.IfFalse (at + a.size + 2)) laid.0 refl (omega arith) in
+      arrives e3 (wide y (omega arith) (onward y test (second (subst (λ k. IsLaid code k (b.from (at + a.size + 2))) e2 parts.1.1))))
+
+  -- ---- vectors and what was gathered
+
+  pub makes_vector : (v : Val) (at left : ℕ) (under : List Val) → values.type_of v ≡ type.Int → slice_get code at ≡ Some instr.NewVector
+      → Evaluates s code 1 (frame at (v ∷ under) variables left) state (at + 1) under variables type.Vector (new_vector v left)
+  makes_vector (val.Int (pos n)) at left under has is = by (nat_lt most_elements n) refl
+    where
+      by : (b : Bool) → perform_on s instr.NewVector (val.Int (pos n) ∷ under) (frame at (val.Int (pos n) ∷ under) variables left)
+          ≡ cond b (Some (machine.Ends (Stopped outcome.Limit) (frame at (val.Int (pos n) ∷ under) variables left))) (Some (Goes (frame (suc at) (val.Vector (replicate n (pos 0)) ∷ under) variables left)))
+          → Evaluates s code 1 (frame at (val.Int (pos n) ∷ under) variables left) state (at + 1) under variables type.Vector (cond b (Ends TooLong) (Gives (val.Vector (replicate n (pos 0))) left))
+      by true does = throws instr.NewVector TooLong is does
+      by false does = gives_value instr.NewVector (val.Vector (replicate n (pos 0))) is does tt refl
+  makes_vector (val.Int (negsuc n)) at left under has is = throws instr.NewVector (Threw exn.NegativeSize) is refl
+  makes_vector (val.Long n) at left under has is = absurd (cc)
+  makes_vector (val.Bool b) at left under has is = absurd (cc)
+  makes_vector (val.Vector longs) at left under has is = absurd (cc)
+  makes_vector val.Unit at left under has is = absurd (cc)
+
+  finds_long : (i : Instr) (o : Option ℤ) (at left : ℕ) (stack under : List Val) → slice_get code at ≡ Some i
+      → perform_on s i stack (frame at stack variables left) ≡ machine.found (machine.a_long o) under (frame at stack variables left)
+      → Evaluates s code 1 (frame at stack variables left) state (at + 1) under variables type.Long (found val.Long o left)
+  finds_long i None at left stack under is does = throws i (Threw exn.Index) is does
+  finds_long i (Some n) at left stack under is does = gives_value i (val.Long n) is does tt refl
+
+  pub takes_element : (i : Instr) (v j : Val) (at left : ℕ) (stack under : List Val) → values.type_of v ≡ type.Vector → values.type_of j ≡ type.Int → slice_get code at ≡ Some i
+      → perform_on s i stack (frame at stack variables left) ≡ machine.element (Some v) j under (frame at stack variables left)
+      → Evaluates s code 1 (frame at stack variables left) state (at + 1) under variables type.Long (element_of v j left)
+  takes_element i (val.Vector longs) (val.Int (pos n)) at left stack under hv hj is does = finds_long i (slice_get longs n) at left stack under is does
+  takes_element i (val.Vector longs) (val.Int (negsuc n)) at left stack under hv hj is does = finds_long i None at left stack under is does
+  takes_element i (val.Vector longs) (val.Long n) at left stack under hv hj is does = absurd (cc)
+  takes_element i (val.Vector longs) (val.Bool n) at left stack under hv hj is does = absurd (cc)
+  takes_element i (val.Vector longs) (val.Vector n) at left stack under hv hj is does = absurd (cc)
+  takes_element i (val.Vector longs) val.Unit at left stack under hv hj is does = absurd (cc)
+  takes_element i (val.Int m) j at left stack under hv hj is does = absurd (cc)
+  takes_element i (val.Long m) j at left stack under hv hj is does = absurd (cc)
+  takes_element i (val.Bool m) j at left stack under hv hj is does = absurd (cc)
+  takes_element i val.Unit j at left stack under hv hj is does = absurd (cc)
+
+  -- the member at an index, and what follows; an index outside ends the call
+  pub with_member : (i : Instr) (members : List Val) (j : Val) (g : Val → Option Performed) (k : Val → ℕ → Ended Val) (at left : ℕ) (stack under : List Val) (t : ValueType) → values.type_of j ≡ type.Int → slice_get code at ≡ Some i
+      → perform_on s i stack (frame at stack variables left) ≡ machine.with_member members j g (frame at stack variables left)
+      → ((v : Val) (n : ℕ) → slice_get members n ≡ Some v → perform_on s i stack (frame at stack variables left) ≡ g v → Evaluates s code 1 (frame at stack variables left) state (at + 1) under variables t (k v left))
+      → Evaluates s code 1 (frame at stack variables left) state (at + 1) under variables t (followed (found (λ v. v) (member_at j members) left) k)
+  with_member i members (val.Int (pos n)) g k at left stack under t hj is does more = by (slice_get members n) refl does
+    where
+      by : (o : Option Val) → slice_get members n ≡ o → perform_on s i stack (frame at stack variables left) ≡ machine.with_found o g (frame at stack variables left)
+          → Evaluates s code 1 (frame at stack variables left) state (at + 1) under variables t (followed (found (λ v. v) o left) k)
+      by None there does = throws i (Threw exn.Index) is does
+      by (Some v) there does = more v n there does
+  with_member i members (val.Int (negsuc n)) g k at left stack under t hj is does more = throws i (Threw exn.Index) is does
+  with_member i members (val.Long n) g k at left stack under t hj is does more = absurd (cc)
+  with_member i members (val.Bool n) g k at left stack under t hj is does more = absurd (cc)
+  with_member i members (val.Vector n) g k at left stack under t hj is does more = absurd (cc)
+  with_member i members val.Unit g k at left stack under t hj is does more = absurd (cc)
+
+-- ---- tests of types
+
+pub and_then_is : (o p : Option ValueType) (u : ValueType) → and_then o p ≡ Some u → (r : ValueType) × (o ≡ Some r) × (p ≡ Some u)
+and_then_is None p u is = absurd (none_some u is)
+and_then_is (Some r) p u is = (r, refl, is)
+
+pub where_is : (o : Option ValueType) (r t u : ValueType) → where_type o r t ≡ Some u → (o ≡ Some r) × (t ≡ u)
+where_is None r t u is = absurd (none_some u is)
+where_is (Some x) r t u is = by (same_type x r) refl is
+  where
+    by : (b : Bool) → same_type x r ≡ b → cond b (Some t) None ≡ Some u → (Some x ≡ Some r) × (t ≡ u)
+    by true same is = (ap Some (same_is x r same), some_is t u is)
+    by false same is = absurd (none_some u is)
+
+pub boolean_cases : (P : Val → Type 0) (v : Val) → values.type_of v ≡ type.Boolean → ((b : Bool) → P (val.Bool b)) → P v
+boolean_cases P (val.Bool b) has each = each b
+boolean_cases P (val.Int b) has each = absurd (cc)
+boolean_cases P (val.Long b) has each = absurd (cc)
+boolean_cases P (val.Vector b) has each = absurd (cc)
+boolean_cases P val.Unit has each = absurd (cc)
