@@ -1,6 +1,7 @@
 -- The code of an expression gives its value.
-use Rattle.std.proofs.Common.{◌≡◌, ◌≢◌, ◌≤◌, ◌<◌, refl, sym, ap, subst, ◌∙◌, ℕ, zero, suc, ◌+◌, ℤ, pos, negsuc, arith, Bool, true, false, cond, if◌then◌else◌, nat_lt, List, [], ◌∷◌, ◌++◌, map, length, replicate, Option, Some, None, Result, Ok, Err, slice_get, unwrap_or, length-append}
+use Rattle.std.proofs.Common.{◌≡◌, ◌≢◌, ◌≤◌, ◌<◌, refl, sym, ap, subst, ◌∙◌, ℕ, zero, suc, ◌+◌, ℤ, pos, negsuc, arith, Bool, true, false, cond, ◌||◌, if◌then◌else◌, nat_lt, List, [], ◌∷◌, ◌++◌, map, length, replicate, Option, Some, None, Result, Ok, Err, slice_get, unwrap_or, length-append}
 use Rattle.std.specs.List.{AllByRecursion}
+use Rattle.std.proofs.lemmas.Bool.{false≢true}
 use Rattle.sdg_base.specs.declared.operator.BinOp.{BinOp}
 use Rattle.sdg_base.specs.declared.operator.BinOp.TheVariants as bin
 use Rattle.sdg_base.specs.declared.operator.UnOp.{UnOp}
@@ -40,160 +41,119 @@ use Rattle.code_meaning.specs.Laid.{IsSized, IsLaid, frame, Leads, EndsSo, Stops
 use Rattle.code_meaning.specs.Evaluating.{IsValue, AreOf, HasSame, CallAgrees, HelperAgrees, CallsAgree, MergesThese, HasKey, Meets, GathersSame, Evaluates}
 use Rattle.code_meaning.proofs.Lists.{none_some, some_is}
 use Rattle.code_meaning.proofs.Values.{AnswerHas, ValueHas, operation_has, unary_has, same_is}
-use Rattle.code_meaning.proofs.Running.{laid_two, one_step, one_end, one_stop, leads_on, stops_on, wider, stops_wider, leads_to}
+use Rattle.code_meaning.proofs.Running.{laid_two, stays, one_step, one_end, one_stop, leads_on, stops_on, wider, stops_wider, leads_to}
+use Rattle.code_meaning.proofs.Evaluations.{onward, wide, arrives, operand_then, gives_value, throws, answers, gives_one, either_goes, makes_vector, takes_element, with_member, and_then_is, where_is, boolean_cases}
 use Rattle.code_meaning.proofs.Sizes.{code_sized, type_beside}
 use Rattle.code_meaning.proofs.Operands.{on_stack, a_value_is, variable_has_value, unary_values, plus_same, plus_type, AreTaken, binary_taken, condition_taken, operated_is, pushed_all, arguments_are}
 
--- ---- what is evaluated, as the start of more
+
+-- ---- what an expression needs
+
+all_parts : {A : Type 0} (P : A → Type 0) (xs ys : List A) → AllByRecursion P (xs ++ ys) → AllByRecursion P xs × AllByRecursion P ys
+all_parts P [] ys h = (tt, h)
+all_parts P (x ∷ xs) ys h = let more = all_parts P xs ys h.1 in ((h.0, more.0), more.1)
+
+in_first : (a b : Bool) → a ≡ true → (a || b) ≡ true
+in_first true b is = refl
+in_first false b is = absurd (false≢true is)
+
+in_second : (a b : Bool) → b ≡ true → (a || b) ≡ true
+in_second true b is = refl
+in_second false b is = is
+
+pub meets_both : (c : Context) (s : Setting) (here : List Val) (seen : Seen) (a b : Needs) → Meets c s here seen (both a b) → Meets c s here seen a × Meets c s here seen b
+meets_both c s here seen a b h =
+    let variables = all_parts (HasSame c here seen.variables) a.variables b.variables h.variables in
+    let merges = all_parts (MergesThese c seen.gathered) a.merges b.merges h.merges in
+    (record { variables = variables.0; merges = merges.0; key = λ is. h.key (in_first a.key b.key is) },
+    record { variables = variables.1; merges = merges.1; key = λ is. h.key (in_second a.key b.key is) })
+
+-- ---- several values
+
+-- values of these types that are pushed on a stack, or the end of the call
+abbrev pub PushesAll : Setting → List Instr → ℕ → Frame → State → ℕ → List Val → List Val → List ValueType → Ended (List Val) → Type 0
+PushesAll s code size f state to stack variables ts (Gives vs left) =
+    (map values.type_of vs ≡ ts) × Leads s code size f state (frame to (pushed_all vs stack) variables left) state
+PushesAll s code size f state to stack variables ts (Ends h) = Stops s code size f state (outcome_of h) state
+
+pub record EvaluatesAll (s : Setting) (code : List Instr) (size : ℕ) (f : Frame) (state : State) (to : ℕ) (stack variables : List Val) (ts : List ValueType) (given : Ended (List Val)) : Type 0 where
+  pub does : PushesAll s code size f state to stack variables ts given
 
 module _ (s : Setting) (code : List Instr) (variables : List Val) (state : State) where
-  pub onward : {na nb to : ℕ} {f g : Frame} {stack : List Val} {t : ValueType} (x : Ended Val) → Leads s code na f state g state
-      → Evaluates s code nb g state to stack variables t x → Evaluates s code (na + nb) f state to stack variables t x
-  onward (Gives v left) p q = record { does = (q.does.0, leads_on s code p q.does.1) }
-  onward (Ends h) p q = record { does = stops_on s code p q.does }
+  with_more : {na nb to : ℕ} {f g : Frame} {stack : List Val} {r : ValueType} {rs : List ValueType} (v : Val) (more : Ended (List Val)) → values.type_of v ≡ r → Leads s code na f state g state
+      → EvaluatesAll s code nb g state to (v ∷ stack) variables rs more
+      → EvaluatesAll s code (na + nb) f state to stack variables (r ∷ rs) (source.followed more (λ vs rest. Gives (v ∷ vs) rest))
+  with_more v (Gives vs left) has p q = record { does = ((λ i. has i ∷ q.does.0 i), leads_on s code p q.does.1) }
+  with_more v (Ends h) has p q = record { does = stops_on s code p q.does }
 
-  pub wide : {n m to : ℕ} {f : Frame} {stack : List Val} {t : ValueType} (x : Ended Val) → n ≤ m → Evaluates s code n f state to stack variables t x → Evaluates s code m f state to stack variables t x
-  wide (Gives v left) l q = record { does = (q.does.0, wider s code l q.does.1) }
-  wide (Ends h) l q = record { does = stops_wider s code l q.does }
+  one_and_all : {na nb at to : ℕ} {f : Frame} {stack : List Val} {r : ValueType} {rs : List ValueType} (x : Ended Val) (more : ℕ → Ended (List Val)) → IsValue r
+      → Evaluates s code na f state at stack variables r x
+      → ((v : Val) (left : ℕ) → left ≤ f.turns → EvaluatesAll s code nb (frame at (v ∷ stack) variables left) state to (v ∷ stack) variables rs (more left))
+      → EvaluatesAll s code (na + nb) f state to stack variables (r ∷ rs) (source.followed x (λ v left. source.followed (more left) (λ vs rest. Gives (v ∷ vs) rest)))
+  one_and_all {na} {at = at} {f = f} {stack = stack} {r = r} (Gives v left) more h q each =
+      with_more v (more left) q.does.0 (subst (λ st. Leads s code na f state (frame at st variables left) state) (on_stack r v stack h q.does.0) q.does.1) (each v left q.does.1.falls)
+  one_and_all (Ends x) more h q each = record { does = stops_wider s code (omega arith) q.does }
 
-  pub arrives : {n at to : ℕ} {f : Frame} {stack : List Val} {t : ValueType} {x : Ended Val} → at ≡ to → Evaluates s code n f state at stack variables t x → Evaluates s code n f state to stack variables t x
-  arrives {n} {f = f} {stack = stack} {t = t} {x = x} e q = subst (λ to. Evaluates s code n f state to stack variables t x) e q
+  pub arrives_all : {n at to : ℕ} {f : Frame} {stack : List Val} {ts : List ValueType} {x : Ended (List Val)} → at ≡ to → EvaluatesAll s code n f state at stack variables ts x → EvaluatesAll s code n f state to stack variables ts x
+  arrives_all {n} {f = f} {stack = stack} {ts = ts} {x = x} is q = subst (λ to. EvaluatesAll s code n f state to stack variables ts x) is q
 
-  -- One operand, and what follows it.
-  pub operand_then : {na nb at to : ℕ} {f : Frame} {stack under : List Val} {r t : ValueType} (x : Ended Val) (k : Val → ℕ → Ended Val)
-      → IsValue r → Evaluates s code na f state at stack variables r x
-      → ((v : Val) (left : ℕ) → values.type_of v ≡ r → left ≤ f.turns → Evaluates s code nb (frame at (v ∷ stack) variables left) state to under variables t (k v left))
-      → Evaluates s code (na + nb) f state to under variables t (followed x k)
-  operand_then {na} {at = at} {f = f} {stack = stack} {r = r} (Gives v left) k h q more =
-      onward (k v left) (subst (λ st. Leads s code na f state (frame at st variables left) state) (on_stack r v stack h q.does.0) q.does.1) (more v left q.does.0 q.does.1.falls)
-  operand_then (Ends x) k h q more = record { does = stops_wider s code (omega arith) q.does }
+-- ---- expressions
 
-  -- ---- one instruction
+module _ (c : Context) (calls : Calls) (s : Setting) (code : List Instr) (most : ℕ) (agree : CallsAgree c.methods s.methods calls s.calls most) (variables : List Val) (seen : Seen) (same : GathersSame c s seen) where
+  abbrev Right : Option ValueType → Needs → Code → Meaning → Type 0
+  Right o n k value =
+      (t : ValueType) (at turns : ℕ) (stack : List Val) (state : State) → o ≡ Some t → Meets c s variables seen n → IsLaid code at (k.from at) → turns ≤ most
+      → Evaluates s code k.size (frame at stack variables turns) state (at + k.size) stack variables t (value seen turns)
 
-  pub gives_value : {at left : ℕ} {stack under : List Val} {t : ValueType} (i : Instr) (w : Val) → slice_get code at ≡ Some i
-      → perform_on s i stack (frame at stack variables left) ≡ Some (Goes (frame (suc at) (w ∷ under) variables left))
-      → IsValue t → values.type_of w ≡ t → Evaluates s code 1 (frame at stack variables left) state (at + 1) under variables t (Gives w left)
-  gives_value {at} {left} {stack} {under} {t} i w is does h has =
-      let there : Leads s code 1 (frame at stack variables left) state (frame (suc at) (w ∷ under) variables left) state = one_step s code i is does (omega arith) in
-      let e : suc at ≡ at + 1 = omega arith in
-      record { does = (has, subst (λ st. Leads s code 1 (frame at stack variables left) state (frame (at + 1) st variables left) state) (sym (on_stack t w under h has)) (leads_to s code e there)) }
+  abbrev AllRight : Option (List ValueType) → Needs → Code → (Seen → ℕ → Ended (List Val)) → Type 0
+  AllRight o n k value =
+      (ts : List ValueType) (at turns : ℕ) (stack : List Val) (state : State) → o ≡ Some ts → AllByRecursion IsValue ts → Meets c s variables seen n → IsLaid code at (k.from at) → turns ≤ most
+      → EvaluatesAll s code k.size (frame at stack variables turns) state (at + k.size) stack variables ts (value seen turns)
 
-  pub throws : {at to left : ℕ} {stack under : List Val} {t : ValueType} (i : Instr) (h : Halt) → slice_get code at ≡ Some i
-      → perform_on s i stack (frame at stack variables left) ≡ Some (machine.Ends (Stopped (outcome_of h)) (frame at stack variables left))
-      → Evaluates s code 1 (frame at stack variables left) state to under variables t (Ends h)
-  throws i h is does = record { does = one_stop s code i is does }
+  none_right : AllRight (Some []) typing.nothing codes.nothing (λ seen turns. Gives [] turns)
+  none_right ts at turns stack state is h meets laid less =
+      record { does = (some_is {A = List ValueType} [] ts is, let z : at ≡ at + 0 = omega arith in leads_to s code z (stays s code)) }
 
-  pub answers : {at left : ℕ} {stack under : List Val} {t : ValueType} (i : Instr) (a : Answer) → slice_get code at ≡ Some i
-      → perform_on s i stack (frame at stack variables left) ≡ machine.answered a under (frame at stack variables left)
-      → IsValue t → AnswerHas (Some t) a → Evaluates s code 1 (frame at stack variables left) state (at + 1) under variables t (answered a left)
-  answers i None is does h has = absurd has
-  answers i (Some (Ok v)) is does h has = gives_value i v is does h has
-  answers i (Some (Err x)) is does h has = throws i (Threw x) is does
+  typed_parts : (o : Option ValueType) (os : Option (List ValueType)) (ts : List ValueType) → with_type o os ≡ Some ts → (r : ValueType) × (rs : List ValueType) × (o ≡ Some r) × (os ≡ Some rs) × (r ∷ rs ≡ ts)
+  typed_parts (Some r) (Some rs) ts is = (r, rs, refl, refl, some_is (r ∷ rs) ts is)
+  typed_parts (Some r) None ts is = absurd (none_some ts is)
+  typed_parts None os ts is = absurd (none_some ts is)
 
-  pub gives_one : {at left : ℕ} {stack under : List Val} {t : ValueType} (i : Instr) (o : Option Val) → slice_get code at ≡ Some i
-      → perform_on s i stack (frame at stack variables left) ≡ machine.pushed o under (frame at stack variables left)
-      → IsValue t → ValueHas (Some t) o → Evaluates s code 1 (frame at stack variables left) state (at + 1) under variables t (given o left)
-  gives_one i None is does h has = absurd has
-  gives_one i (Some v) is does h has = gives_value i v is does h has
+  more_right : (o : Option ValueType) (os : Option (List ValueType)) (n ns : Needs) (k ks : Code) (value : Meaning) (more : Seen → ℕ → Ended (List Val)) → IsSized k → Right o n k value → AllRight os ns ks more
+      → AllRight (with_type o os) (both n ns) (followed_by k ks) (λ seen turns. source.followed (value seen turns) (λ v left. source.followed (more seen left) (λ vs rest. Gives (v ∷ vs) rest)))
+  more_right o os n ns k ks value more sized right all ts at turns stack state is h meets laid less =
+      let ty = typed_parts o os ts is in
+      let hs : AllByRecursion IsValue (ty.0 ∷ ty.1) = subst (AllByRecursion IsValue) (sym ty.4) h in
+      let parts = laid_two code at k.size (k.from at) (ks.from (at + k.size)) (sized at) laid in
+      let m = meets_both c s variables seen n ns meets in
+      let e3 : at + k.size + ks.size ≡ at + (k.size + ks.size) = omega arith in
+      subst (λ z. EvaluatesAll s code (k.size + ks.size) (frame at stack variables turns) state (at + (k.size + ks.size)) stack variables z (source.followed (value seen turns) (λ v left. source.followed (more seen left) (λ vs rest. Gives (v ∷ vs) rest)))) ty.4
+      (arrives_all s code variables state e3
+      (one_and_all s code variables state (value seen turns) (more seen) hs.0 (right ty.0 at turns stack state ty.2 m.0 parts.0 less)
+      (λ v left l. all ty.1 (at + k.size) left (v ∷ stack) state ty.3 hs.1 m.1 parts.1 (omega arith))))
 
-  -- a jump behind
-  pub jumps : {n at to : ℕ} {f : Frame} {stack : List Val} {t : ValueType} (x : Ended Val) → slice_get code at ≡ Some (instr.Jump to)
-      → Evaluates s code n f state at stack variables t x → Evaluates s code (n + 1) f state to stack variables t x
-  jumps (Gives v left) is q = record { does = (q.does.0, leads_on s code q.does.1 (one_step s code (instr.Jump _) is refl (omega arith))) }
-  jumps (Ends h) is q = record { does = stops_wider s code (omega arith) q.does }
+  -- an operand, and an instruction behind it
+  behind_goes : (k : Code) (i : Instr) (o : Option ValueType) (n : Needs) (value : Meaning) (g : Val → ℕ → Ended Val) (r t : ValueType) (at turns : ℕ) (stack : List Val) (state : State)
+      → IsSized k → Right o n k value → o ≡ Some r → IsValue r → Meets c s variables seen n → IsLaid code at ((behind k i).from at) → turns ≤ most
+      → ((v : Val) (left : ℕ) → values.type_of v ≡ r → slice_get code (at + k.size) ≡ Some i → Evaluates s code 1 (frame (at + k.size) (v ∷ stack) variables left) state (at + k.size + 1) stack variables t (g v left))
+      → Evaluates s code (k.size + 1) (frame at stack variables turns) state (at + (k.size + 1)) stack variables t (followed (value seen turns) g)
+  behind_goes k i o n value g r t at turns stack state sized right is h meets laid less more =
+      let parts = laid_two code at k.size (k.from at) (i ∷ []) (sized at) laid in
+      let e3 : at + k.size + 1 ≡ at + (k.size + 1) = omega arith in
+      arrives s code variables state e3
+      (operand_then s code variables state (value seen turns) g h (right r at turns stack state is meets parts.0 less) (λ v left has l. more v left has parts.1.0))
 
-  -- ---- one of two
+  plus_goes : {n to : ℕ} {f : Frame} {stack : List Val} {r t : ValueType} {state : State} (x : Ended Val) → unary_type un.Plus r ≡ Some t → Evaluates s code n f state to stack variables r x
+      → Evaluates s code n f state to stack variables t (followed x (λ v left. given (unary_operation un.Plus v) left))
+  plus_goes {n} {to} {f} {stack} {r} {t} {state} (Gives v left) is q =
+      subst (λ w. Evaluates s code n f state to stack variables t (Gives w left)) (sym (plus_same v t (ap (unary_type un.Plus) q.does.0 ∙ is)))
+      (record { does = (q.does.0 ∙ plus_type r t is, q.does.1) })
+  plus_goes (Ends h) is q = record { does = q.does }
 
-  pub either_goes : (a b : Code) → IsSized a → IsSized b → (at left : ℕ) (stack : List Val) (t : ValueType) (holds : Bool) (x y : Ended Val) → IsLaid code at ((either a b).from at)
-      → (IsLaid code (at + 1) (a.from (at + 1)) → Evaluates s code a.size (frame (at + 1) stack variables left) state (at + 1 + a.size) stack variables t x)
-      → (IsLaid code (at + a.size + 2) (b.from (at + a.size + 2)) → Evaluates s code b.size (frame (at + a.size + 2) stack variables left) state (at + a.size + 2 + b.size) stack variables t y)
-      → Evaluates s code (a.size + b.size + 2) (frame at (val.Bool holds ∷ stack) variables left) state (at + (a.size + b.size + 2)) stack variables t (if holds then x else y)
-  either_goes a b ha hb at left stack t true x y laid first second =
-      let parts = laid_two code (suc at) a.size (a.from (at + 1)) (instr.Jump (at + a.size + b.size + 2) ∷ b.from (at + a.size + 2)) (ha (at + 1)) laid.1 in
-      let e1 : suc at ≡ at + 1 = omega arith in
-      let e2 : suc at + a.size ≡ at + 1 + a.size = omega arith in
-      let e3 : at + a.size + b.size + 2 ≡ at + (a.size + b.size + 2) = omega arith in
-      let test : Leads s code 1 (frame at (val.Bool true ∷ stack) variables left) state (frame (at + 1) stack variables left) state = leads_to s code e1 (one_step s code (instr.IfFalse (at + a.size + 2)) laid.0 refl (omega arith)) in
-      let jump : slice_get code (at + 1 + a.size) ≡ Some (instr.Jump (at + a.size + b.size + 2)) = subst (λ k. slice_get code k ≡ Some (instr.Jump (at + a.size + b.size + 2))) e2 parts.1.0 in
-      arrives e3 (wide x (omega arith) (onward x test (jumps x jump (first (subst (λ k. IsLaid code k (a.from (at + 1))) e1 parts.0)))))
-  either_goes a b ha hb at left stack t false x y laid first second =
-      let parts = laid_two code (suc at) a.size (a.from (at + 1)) (instr.Jump (at + a.size + b.size + 2) ∷ b.from (at + a.size + 2)) (ha (at + 1)) laid.1 in
-      let e2 : suc (suc at + a.size) ≡ at + a.size + 2 = omega arith in
-      let e3 : at + a.size + 2 + b.size ≡ at + (a.size + b.size + 2) = omega arith in
-      let test : Leads s code 1 (frame at (val.Bool false ∷ stack) variables left) state (frame (at + a.size + 2) stack variables left) state = one_step s code (instr.IfFalse (at + a.size + 2)) laid.0 refl (omega arith) in
-      arrives e3 (wide y (omega arith) (onward y test (second (subst (λ k. IsLaid code k (b.from (at + a.size + 2))) e2 parts.1.1))))
-
-  -- ---- vectors and what was gathered
-
-  pub makes_vector : (v : Val) (at left : ℕ) (under : List Val) → values.type_of v ≡ type.Int → slice_get code at ≡ Some instr.NewVector
-      → Evaluates s code 1 (frame at (v ∷ under) variables left) state (at + 1) under variables type.Vector (new_vector v left)
-  makes_vector (val.Int (pos n)) at left under has is = by (nat_lt most_elements n) refl
-    where
-      by : (b : Bool) → perform_on s instr.NewVector (val.Int (pos n) ∷ under) (frame at (val.Int (pos n) ∷ under) variables left)
-          ≡ cond b (Some (machine.Ends (Stopped outcome.Limit) (frame at (val.Int (pos n) ∷ under) variables left))) (Some (Goes (frame (suc at) (val.Vector (replicate n (pos 0)) ∷ under) variables left)))
-          → Evaluates s code 1 (frame at (val.Int (pos n) ∷ under) variables left) state (at + 1) under variables type.Vector (cond b (Ends TooLong) (Gives (val.Vector (replicate n (pos 0))) left))
-      by true does = throws instr.NewVector TooLong is does
-      by false does = gives_value instr.NewVector (val.Vector (replicate n (pos 0))) is does tt refl
-  makes_vector (val.Int (negsuc n)) at left under has is = throws instr.NewVector (Threw exn.NegativeSize) is refl
-  makes_vector (val.Long n) at left under has is = absurd (cc)
-  makes_vector (val.Bool b) at left under has is = absurd (cc)
-  makes_vector (val.Vector longs) at left under has is = absurd (cc)
-  makes_vector val.Unit at left under has is = absurd (cc)
-
-  finds_long : (i : Instr) (o : Option ℤ) (at left : ℕ) (stack under : List Val) → slice_get code at ≡ Some i
-      → perform_on s i stack (frame at stack variables left) ≡ machine.found (machine.a_long o) under (frame at stack variables left)
-      → Evaluates s code 1 (frame at stack variables left) state (at + 1) under variables type.Long (found val.Long o left)
-  finds_long i None at left stack under is does = throws i (Threw exn.Index) is does
-  finds_long i (Some n) at left stack under is does = gives_value i (val.Long n) is does tt refl
-
-  pub takes_element : (i : Instr) (v j : Val) (at left : ℕ) (stack under : List Val) → values.type_of v ≡ type.Vector → values.type_of j ≡ type.Int → slice_get code at ≡ Some i
-      → perform_on s i stack (frame at stack variables left) ≡ machine.element (Some v) j under (frame at stack variables left)
-      → Evaluates s code 1 (frame at stack variables left) state (at + 1) under variables type.Long (element_of v j left)
-  takes_element i (val.Vector longs) (val.Int (pos n)) at left stack under hv hj is does = finds_long i (slice_get longs n) at left stack under is does
-  takes_element i (val.Vector longs) (val.Int (negsuc n)) at left stack under hv hj is does = finds_long i None at left stack under is does
-  takes_element i (val.Vector longs) (val.Long n) at left stack under hv hj is does = absurd (cc)
-  takes_element i (val.Vector longs) (val.Bool n) at left stack under hv hj is does = absurd (cc)
-  takes_element i (val.Vector longs) (val.Vector n) at left stack under hv hj is does = absurd (cc)
-  takes_element i (val.Vector longs) val.Unit at left stack under hv hj is does = absurd (cc)
-  takes_element i (val.Int m) j at left stack under hv hj is does = absurd (cc)
-  takes_element i (val.Long m) j at left stack under hv hj is does = absurd (cc)
-  takes_element i (val.Bool m) j at left stack under hv hj is does = absurd (cc)
-  takes_element i val.Unit j at left stack under hv hj is does = absurd (cc)
-
-  -- the member at an index, and what follows; an index outside ends the call
-  pub with_member : (i : Instr) (members : List Val) (j : Val) (g : Val → Option Performed) (k : Val → ℕ → Ended Val) (at left : ℕ) (stack under : List Val) (t : ValueType) → values.type_of j ≡ type.Int → slice_get code at ≡ Some i
-      → perform_on s i stack (frame at stack variables left) ≡ machine.with_member members j g (frame at stack variables left)
-      → ((v : Val) (n : ℕ) → slice_get members n ≡ Some v → perform_on s i stack (frame at stack variables left) ≡ g v → Evaluates s code 1 (frame at stack variables left) state (at + 1) under variables t (k v left))
-      → Evaluates s code 1 (frame at stack variables left) state (at + 1) under variables t (followed (found (λ v. v) (member_at j members) left) k)
-  with_member i members (val.Int (pos n)) g k at left stack under t hj is does more = by (slice_get members n) refl does
-    where
-      by : (o : Option Val) → slice_get members n ≡ o → perform_on s i stack (frame at stack variables left) ≡ machine.with_found o g (frame at stack variables left)
-          → Evaluates s code 1 (frame at stack variables left) state (at + 1) under variables t (followed (found (λ v. v) o left) k)
-      by None there does = throws i (Threw exn.Index) is does
-      by (Some v) there does = more v n there does
-  with_member i members (val.Int (negsuc n)) g k at left stack under t hj is does more = throws i (Threw exn.Index) is does
-  with_member i members (val.Long n) g k at left stack under t hj is does more = absurd (cc)
-  with_member i members (val.Bool n) g k at left stack under t hj is does more = absurd (cc)
-  with_member i members (val.Vector n) g k at left stack under t hj is does more = absurd (cc)
-  with_member i members val.Unit g k at left stack under t hj is does more = absurd (cc)
-
--- ---- tests of types
-
-pub and_then_is : (o p : Option ValueType) (u : ValueType) → and_then o p ≡ Some u → (r : ValueType) × (o ≡ Some r) × (p ≡ Some u)
-and_then_is None p u is = absurd (none_some u is)
-and_then_is (Some r) p u is = (r, refl, is)
-
-pub where_is : (o : Option ValueType) (r t u : ValueType) → where_type o r t ≡ Some u → (o ≡ Some r) × (t ≡ u)
-where_is None r t u is = absurd (none_some u is)
-where_is (Some x) r t u is = by (same_type x r) refl is
-  where
-    by : (b : Bool) → same_type x r ≡ b → cond b (Some t) None ≡ Some u → (Some x ≡ Some r) × (t ≡ u)
-    by true same is = (ap Some (same_is x r same), some_is t u is)
-    by false same is = absurd (none_some u is)
-
-pub boolean_cases : (P : Val → Type 0) (v : Val) → values.type_of v ≡ type.Boolean → ((b : Bool) → P (val.Bool b)) → P v
-boolean_cases P (val.Bool b) has each = each b
-boolean_cases P (val.Int b) has each = absurd (cc)
-boolean_cases P (val.Long b) has each = absurd (cc)
-boolean_cases P (val.Vector b) has each = absurd (cc)
-boolean_cases P val.Unit has each = absurd (cc)
+  unary_right : (op : UnOp) (o : Option ValueType) (n : Needs) (k : Code) (value : Meaning) → IsSized k → Right o n k value
+      → Right (of_one (unary_type op) o) n (unary op k) (λ seen turns. followed (value seen turns) (λ v left. given (unary_operation op v) left))
+  unary_right op None n k value sized right t at turns stack state is meets laid less = absurd (none_some t is)
+  unary_right un.Plus (Some r) n k value sized right t at turns stack state is meets laid less = plus_goes (value seen turns) is (right r at turns stack state refl meets laid less)
+  unary_right op (Some r) n k value sized right t at turns stack state is meets laid less =
+      behind_goes k (instr.Un op) (Some r) n value (λ v left. given (unary_operation op v) left) r t at turns stack state sized right refl (unary_values op r t is).0 meets laid less
+      (λ v left has there. gives_one s code variables state (instr.Un op) (unary_operation op v) there refl (unary_values op r t is).1 (subst (λ z. ValueHas z (unary_operation op v)) (ap (unary_type op) has ∙ is) (unary_has op v)))

@@ -4,4 +4,5 @@ mod Lists
 mod Running
 mod Sizes
 mod Operands
+mod Evaluations
 mod Expressions
