@@ -1,5 +1,5 @@
 -- The code of an expression gives its value.
-use Rattle.std.proofs.Common.{◌≡◌, ◌≢◌, ◌≤◌, ◌<◌, refl, sym, ap, subst, ◌∙◌, ℕ, zero, suc, ◌+◌, ℤ, pos, negsuc, arith, Bool, true, false, cond, ◌||◌, if◌then◌else◌, nat_lt, List, [], ◌∷◌, ◌++◌, map, length, replicate, Option, Some, None, Result, Ok, Err, slice_get, unwrap_or, length-append}
+use Rattle.std.proofs.Common.{◌≡◌, ◌≢◌, ◌≤◌, ◌<◌, refl, sym, ap, ap₂, subst, ◌∙◌, ℕ, zero, suc, ◌+◌, ℤ, pos, negsuc, arith, Bool, true, false, cond, ◌||◌, if◌then◌else◌, nat_lt, List, [], ◌∷◌, ◌++◌, map, length, replicate, Option, Some, None, Result, Ok, Err, slice_get, unwrap_or, length-append}
 use Rattle.std.specs.List.{AllByRecursion}
 use Rattle.std.proofs.lemmas.Bool.{false≢true}
 use Rattle.sdg_base.specs.declared.operator.BinOp.{BinOp}
@@ -9,6 +9,7 @@ use Rattle.sdg_base.specs.declared.operator.UnOp.TheVariants as un
 use Rattle.sdg_base.specs.declared.val.Exn.{Exn}
 use Rattle.sdg_base.specs.declared.val.Exn.TheVariants as exn
 use Rattle.sdg_base.specs.declared.val.Num.{Num}
+use Rattle.sdg_base.specs.declared.val.Num.TheVariants as num
 use Rattle.sdg_base.specs.declared.val.Outcome.{Outcome}
 use Rattle.sdg_base.specs.declared.val.Outcome.TheVariants as outcome
 use Rattle.sdg_base.specs.declared.val.Val.{Val}
@@ -18,12 +19,12 @@ use Rattle.sdg_base.specs.declared.value_type.ValueType.TheVariants as type
 use Rattle.sdg_base.specs.Operations.{Answer, operation, unary_operation, converted}
 use Rattle.sdg_base.specs.Types as values
 use Rattle.sdg_base.specs.Types.{binary_type, unary_type}
-use Rattle.flat_code.specs.Types.{same_type}
+use Rattle.flat_code.specs.Types.{same_type, right_type}
 use Rattle.state_classes.specs.States.{State}
 use Rattle.flat_code.specs.declared.graph.Instr.{Instr}
 use Rattle.flat_code.specs.declared.graph.Instr.TheVariants as instr
 use Rattle.flat_code.specs.Machine as machine
-use Rattle.flat_code.specs.Machine.{Setting, Frame, Performed, Goes, Stopped, Called, Gave, Failed, perform_on, pushed_result}
+use Rattle.flat_code.specs.Machine.{Setting, Frame, Performed, Goes, Stopped, Called, Gave, Failed, perform_on, pushed_result, operated}
 use Rattle.access_blocks.specs.declared.body.Expression.{Expression, roll-Expression}
 use Rattle.access_blocks.specs.declared.body.Expression.TheOpen.{Expression-F}
 use Rattle.access_blocks.specs.declared.body.Expression.TheOpen as e
@@ -43,9 +44,29 @@ use Rattle.code_meaning.proofs.Lists.{none_some, some_is}
 use Rattle.code_meaning.proofs.Values.{AnswerHas, ValueHas, operation_has, unary_has, same_is}
 use Rattle.code_meaning.proofs.Running.{laid_two, stays, one_step, one_end, one_stop, leads_on, stops_on, wider, stops_wider, leads_to}
 use Rattle.code_meaning.proofs.Evaluations.{onward, wide, arrives, operand_then, gives_value, throws, answers, gives_one, either_goes, makes_vector, takes_element, with_member, and_then_is, where_is, boolean_cases}
-use Rattle.code_meaning.proofs.Sizes.{code_sized, type_beside}
+use Rattle.code_meaning.proofs.Sizes.{followed_sized, code_sized, codes_sized, type_beside}
 use Rattle.code_meaning.proofs.Operands.{on_stack, a_value_is, variable_has_value, unary_values, plus_same, plus_type, AreTaken, binary_taken, condition_taken, operated_is, pushed_all, arguments_are}
 
+
+-- ---- casts
+
+cast_of_number : (to : Num) (r t : ValueType) → cast_type to (Some r) ≡ Some t → IsValue r × IsValue t
+cast_of_number num.Int type.Int t is = (tt, subst IsValue (some_is type.Int t is) tt)
+cast_of_number num.Int type.Long t is = (tt, subst IsValue (some_is type.Int t is) tt)
+cast_of_number num.Long type.Int t is = (tt, subst IsValue (some_is type.Long t is) tt)
+cast_of_number num.Long type.Long t is = (tt, subst IsValue (some_is type.Long t is) tt)
+cast_of_number _ _ t is = absurd (none_some t is)
+
+cast_has : (to : Num) (v : Val) → ValueHas (cast_type to (Some (values.type_of v))) (converted to v)
+cast_has num.Int (val.Int n) = refl
+cast_has num.Int (val.Long n) = refl
+cast_has num.Long (val.Int n) = refl
+cast_has num.Long (val.Long n) = refl
+cast_has _ _ = tt
+
+cast_operand : (to : Num) (o : Option ValueType) (t : ValueType) → cast_type to o ≡ Some t → (r : ValueType) × (o ≡ Some r)
+cast_operand to None t is = absurd (none_some t is)
+cast_operand to (Some r) t is = (r, refl)
 
 -- ---- what an expression needs
 
@@ -157,3 +178,187 @@ module _ (c : Context) (calls : Calls) (s : Setting) (code : List Instr) (most :
   unary_right op (Some r) n k value sized right t at turns stack state is meets laid less =
       behind_goes k (instr.Un op) (Some r) n value (λ v left. given (unary_operation op v) left) r t at turns stack state sized right refl (unary_values op r t is).0 meets laid less
       (λ v left has there. gives_one s code variables state (instr.Un op) (unary_operation op v) there refl (unary_values op r t is).1 (subst (λ z. ValueHas z (unary_operation op v)) (ap (unary_type op) has ∙ is) (unary_has op v)))
+
+  -- two operands, and an instruction behind them
+  two_go : (a b : Code) (i : Instr) (oa ob : Option ValueType) (na nb : Needs) (va vb : Meaning) (g : Val → Val → ℕ → Ended Val) (r u t : ValueType) (at turns : ℕ) (stack : List Val) (state : State)
+      → IsSized a → IsSized b → Right oa na a va → Right ob nb b vb → oa ≡ Some r → ob ≡ Some u → IsValue r → IsValue u → Meets c s variables seen (both na nb)
+      → IsLaid code at ((behind (followed_by a b) i).from at) → turns ≤ most
+      → ((v w : Val) (at left : ℕ) → values.type_of v ≡ r → values.type_of w ≡ u → slice_get code at ≡ Some i → Evaluates s code 1 (frame at (w ∷ v ∷ stack) variables left) state (at + 1) stack variables t (g v w left))
+      → Evaluates s code (a.size + b.size + 1) (frame at stack variables turns) state (at + (a.size + b.size + 1)) stack variables t
+      (followed (va seen turns) (λ v left. followed (vb seen left) (g v)))
+  two_go a b i oa ob na nb va vb g r u t at turns stack state ha hb ra rb ia ib vr vu meets laid less more =
+      let outer = laid_two code at (a.size + b.size) (a.from at ++ b.from (at + a.size)) (i ∷ []) (followed_sized a b ha hb at) laid in
+      let inner = laid_two code at a.size (a.from at) (b.from (at + a.size)) (ha at) outer.0 in
+      let m = meets_both c s variables seen na nb meets in
+      let e1 : at + a.size + b.size + 1 ≡ at + (a.size + b.size + 1) = omega arith in
+      let e2 : at + (a.size + b.size) ≡ at + a.size + b.size = omega arith in
+      let there : slice_get code (at + a.size + b.size) ≡ Some i = subst (λ k. slice_get code k ≡ Some i) e2 outer.1.0 in
+      wide s code variables state (followed (va seen turns) (λ v left. followed (vb seen left) (g v))) (omega arith)
+      (arrives s code variables state e1
+      (operand_then s code variables state (va seen turns) (λ v left. followed (vb seen left) (g v)) vr (ra r at turns stack state ia m.0 inner.0 less) (λ v left hv l.
+      operand_then s code variables state (vb seen left) (g v) vu (rb u (at + a.size) left (v ∷ stack) state ib m.1 inner.1 (omega arith)) (λ w rest hw k.
+      more v w (at + a.size + b.size) rest hv hw there))))
+
+  type_pair : (o p : Option ValueType) (f : ValueType → ValueType → Option ValueType) (t : ValueType) → of_two f o p ≡ Some t → (r : ValueType) × (u : ValueType) × (o ≡ Some r) × (p ≡ Some u) × (f r u ≡ Some t)
+  type_pair (Some r) (Some u) f t is = (r, u, refl, refl, is)
+  type_pair (Some r) None f t is = absurd (none_some t is)
+  type_pair None p f t is = absurd (none_some t is)
+
+  operators_right : (op : BinOp) (la lb : Lowered) (oa ob : Option ValueType) (na nb : Needs) (va vb : Meaning) → la.type ≡ oa → IsSized la.code → IsSized lb.code → Right oa na la.code va → Right ob nb lb.code vb
+      → Right (of_two (binary_type op) oa ob) (both na nb) (behind (followed_by la.code lb.code) (instr.Bin op (operand_of la.type)))
+      (λ seen turns. followed (va seen turns) (λ v left. followed (vb seen left) (λ w rest. answered (operation op v w) rest)))
+  operators_right op la lb oa ob na nb va vb beside ha hb ra rb t at turns stack state is meets laid less =
+      let ty = type_pair oa ob (binary_type op) t is in
+      let taken : AreTaken (right_type op) ty.0 ty.1 t = binary_taken op ty.0 ty.1 t ty.4 in
+      two_go la.code lb.code (instr.Bin op (operand_of la.type)) oa ob na nb va vb (λ v w rest. answered (operation op v w) rest) ty.0 ty.1 t at turns stack state ha hb ra rb ty.2 ty.3 taken.left taken.second meets laid less
+      (λ v w at left hv hw there.
+      let works : operated op (operand_of la.type) v w ≡ operation op v w = ap (λ o. operated op (operand_of o) v w) (beside ∙ ty.2) ∙ operated_is op ty.0 ty.1 t v w taken hv hw in
+      answers s code variables state (instr.Bin op (operand_of la.type)) (operation op v w) there (ap (λ a. machine.answered a stack (frame at (w ∷ v ∷ stack) variables left)) works) taken.result
+      (subst (λ z. AnswerHas z (operation op v w)) (ap₂ (binary_type op) hv hw ∙ ty.4) (operation_has op v w)))
+
+  -- a condition, and one of two behind it
+  chosen_goes : (k a b : Code) (o : Option ValueType) (n : Needs) (value : Meaning) (x y : ℕ → Ended Val) (t : ValueType) (at turns : ℕ) (stack : List Val) (state : State)
+      → IsSized k → IsSized a → IsSized b → Right o n k value → o ≡ Some type.Boolean → Meets c s variables seen n → IsLaid code at ((followed_by k (either a b)).from at) → turns ≤ most
+      → ((at left : ℕ) → left ≤ turns → IsLaid code at (a.from at) → Evaluates s code a.size (frame at stack variables left) state (at + a.size) stack variables t (x left))
+      → ((at left : ℕ) → left ≤ turns → IsLaid code at (b.from at) → Evaluates s code b.size (frame at stack variables left) state (at + b.size) stack variables t (y left))
+      → Evaluates s code (k.size + (a.size + b.size + 2)) (frame at stack variables turns) state (at + (k.size + (a.size + b.size + 2))) stack variables t
+      (followed (value seen turns) (λ v left. if is_true v then x left else y left))
+  chosen_goes k a b o n value x y t at turns stack state hk ha hb right is meets laid less first second =
+      let parts = laid_two code at k.size (k.from at) ((either a b).from (at + k.size)) (hk at) laid in
+      let e1 : at + k.size + (a.size + b.size + 2) ≡ at + (k.size + (a.size + b.size + 2)) = omega arith in
+      arrives s code variables state e1
+      (operand_then s code variables state (value seen turns) (λ v left. if is_true v then x left else y left) tt (right type.Boolean at turns stack state is meets parts.0 less) (λ v left has l.
+      boolean_cases (λ v. Evaluates s code (a.size + b.size + 2) (frame (at + k.size) (v ∷ stack) variables left) state (at + k.size + (a.size + b.size + 2)) stack variables t (if is_true v then x left else y left)) v has (λ holds.
+      either_goes s code variables state a b ha hb (at + k.size) left stack t holds (x left) (y left) parts.1 (first (at + k.size + 1) left l) (second (at + k.size + a.size + 2) left l))))
+
+  constant_goes : (b : Bool) (at left : ℕ) (stack : List Val) (state : State) (t : ValueType) → t ≡ type.Boolean → IsLaid code at (instr.Bool b ∷ [])
+      → Evaluates s code 1 (frame at stack variables left) state (at + 1) stack variables t (Gives (val.Bool b) left)
+  constant_goes b at left stack state t is laid = gives_value s code variables state (instr.Bool b) (val.Bool b) laid.0 refl (subst IsValue (sym is) tt) (sym is)
+
+  binary_right : (op : BinOp) (la lb : Lowered) (oa ob : Option ValueType) (na nb : Needs) (va vb : Meaning) → la.type ≡ oa → IsSized la.code → IsSized lb.code → Right oa na la.code va → Right ob nb lb.code vb
+      → Right (of_two (binary_type op) oa ob) (both na nb) (binary op la lb) (λ seen turns. followed (va seen turns) (λ v left. after_first op v (vb seen) left))
+  binary_right bin.AndAlso la lb oa ob na nb va vb beside ha hb ra rb t at turns stack state is meets laid less =
+      let ty = type_pair oa ob (binary_type bin.AndAlso) t is in
+      let k = condition_taken ty.0 ty.1 t ty.4 in
+      let m = meets_both c s variables seen na nb meets in
+      chosen_goes la.code lb.code (plain (instr.Bool false ∷ [])) oa na va (vb seen) (λ left. Gives (val.Bool false) left) t at turns stack state ha hb (λ at. refl) ra (ty.2 ∙ ap Some k.0) m.0 laid less
+      (λ at left l there. rb t at left stack state (ty.3 ∙ ap Some (k.1 ∙ sym k.2)) m.1 there (omega arith))
+      (λ at left l there. constant_goes false at left stack state t k.2 there)
+  binary_right bin.OrElse la lb oa ob na nb va vb beside ha hb ra rb t at turns stack state is meets laid less =
+      let ty = type_pair oa ob (binary_type bin.OrElse) t is in
+      let k = condition_taken ty.0 ty.1 t ty.4 in
+      let m = meets_both c s variables seen na nb meets in
+      chosen_goes la.code (plain (instr.Bool true ∷ [])) lb.code oa na va (λ left. Gives (val.Bool true) left) (vb seen) t at turns stack state ha (λ at. refl) hb ra (ty.2 ∙ ap Some k.0) m.0 laid less
+      (λ at left l there. constant_goes true at left stack state t k.2 there)
+      (λ at left l there. rb t at left stack state (ty.3 ∙ ap Some (k.1 ∙ sym k.2)) m.1 there (omega arith))
+  binary_right op la lb oa ob na nb va vb beside ha hb ra rb t at turns stack state is meets laid less = operators_right op la lb oa ob na nb va vb beside ha hb ra rb t at turns stack state is meets laid less
+
+  conditional_type : (test a b : Option ValueType) (t : ValueType) → chosen_type test a b ≡ Some t → (test ≡ Some type.Boolean) × (a ≡ Some t) × (b ≡ Some t)
+  conditional_type (Some type.Boolean) a b t is = by (type_pair a b alike t is)
+    where
+      same_both : (r u : ValueType) → alike r u ≡ Some t → (r ≡ t) × (u ≡ t)
+      same_both r u is = go (same_type r u) refl is
+        where
+          go : (z : Bool) → same_type r u ≡ z → cond z (Some r) None ≡ Some t → (r ≡ t) × (u ≡ t)
+          go true e h = (some_is r t h, sym (same_is r u e) ∙ some_is r t h)
+          go false e h = absurd (none_some t h)
+      by : (r : ValueType) × (u : ValueType) × (a ≡ Some r) × (b ≡ Some u) × (alike r u ≡ Some t) → (Some type.Boolean ≡ Some type.Boolean) × (a ≡ Some t) × (b ≡ Some t)
+      by k = let z = same_both k.0 k.1 k.4 in (refl, k.2 ∙ ap Some z.0, k.3 ∙ ap Some z.1)
+  conditional_type (Some type.Int) a b t is = absurd (none_some t is)
+  conditional_type (Some type.Long) a b t is = absurd (none_some t is)
+  conditional_type (Some type.Vector) a b t is = absurd (none_some t is)
+  conditional_type (Some type.Void) a b t is = absurd (none_some t is)
+  conditional_type None a b t is = absurd (none_some t is)
+
+  conditional_right : (ok oa ob : Option ValueType) (nk na nb : Needs) (k a b : Code) (vk va vb : Meaning) → IsSized k → IsSized a → IsSized b → Right ok nk k vk → Right oa na a va → Right ob nb b vb
+      → Right (chosen_type ok oa ob) (both nk (both na nb)) (followed_by k (either a b)) (λ seen turns. followed (vk seen turns) (λ v left. if is_true v then va seen left else vb seen left))
+  conditional_right ok oa ob nk na nb k a b vk va vb hk ha hb rk ra rb t at turns stack state is meets laid less =
+      let ty = conditional_type ok oa ob t is in
+      let m = meets_both c s variables seen nk (both na nb) meets in
+      let mm = meets_both c s variables seen na nb m.1 in
+      chosen_goes k a b ok nk vk (va seen) (vb seen) t at turns stack state hk ha hb rk ty.0 m.0 laid less
+      (λ at left l there. ra t at left stack state ty.1 mm.0 there (omega arith))
+      (λ at left l there. rb t at left stack state ty.2 mm.1 there (omega arith))
+
+  cast_right : (to : Num) (o : Option ValueType) (n : Needs) (k : Code) (value : Meaning) → IsSized k → Right o n k value
+      → Right (cast_type to o) n (behind k (instr.Cast to)) (λ seen turns. followed (value seen turns) (λ v left. given (converted to v) left))
+  cast_right to o n k value sized right t at turns stack state is meets laid less =
+      let ty = cast_operand to o t is in
+      let h = cast_of_number to ty.0 t (sym (ap (cast_type to) ty.1) ∙ is) in
+      behind_goes k (instr.Cast to) o n value (λ v left. given (converted to v) left) ty.0 t at turns stack state sized right ty.1 h.0 meets laid less
+      (λ v left has there. gives_one s code variables state (instr.Cast to) (converted to v) there refl h.1
+      (subst (λ z. ValueHas z (converted to v)) (ap (λ r. cast_type to (Some r)) has ∙ sym (ap (cast_type to) ty.1) ∙ is) (cast_has to v)))
+
+  -- ---- variables and the key
+
+  variable_goes : (v : ℕ) (k : HasSame c variables seen.variables v) (t : ValueType) (at left : ℕ) (stack : List Val) (state : State) → variable_type c v ≡ Some t → slice_get code at ≡ Some (instr.Load v)
+      → Evaluates s code 1 (frame at stack variables left) state (at + 1) stack variables t (Gives (variable_of seen v) left)
+  variable_goes v k t at left stack state is there =
+      let has : values.type_of k.value ≡ t = k.has_type ∙ some_is k.type t (sym k.is_type ∙ is) in
+      let h : IsValue t = variable_has_value c v t is in
+      subst (λ w. Evaluates s code 1 (frame at stack variables left) state (at + 1) stack variables t (Gives w left)) (sym (ap (λ o. unwrap_or o val.Unit) k.is_there))
+      (gives_value s code variables state (instr.Load v) k.value there
+      (ap (λ o. machine.pushed (machine.a_value o) stack (frame at stack variables left)) k.is_here ∙ ap (λ o. machine.pushed o stack (frame at stack variables left)) (a_value_is t k.value h has)) h has)
+
+  key_goes : (t : ValueType) (at left : ℕ) (stack : List Val) (state : State) → Some type.Long ≡ Some t → HasKey s.key seen.key → slice_get code at ≡ Some instr.Key
+      → Evaluates s code 1 (frame at stack variables left) state (at + 1) stack variables t (Gives seen.key left)
+  key_goes t at left stack state is k there =
+      let e : type.Long ≡ t = some_is type.Long t is in
+      subst (λ w. Evaluates s code 1 (frame at stack variables left) state (at + 1) stack variables t (Gives w left)) (sym k.is_there)
+      (gives_value s code variables state instr.Key (val.Long k.number) there (ap (λ o. machine.pushed (machine.key_value o) stack (frame at stack variables left)) k.is_here) (subst IsValue e tt) e)
+
+  -- ---- vectors
+
+  new_vector_right : (o : Option ValueType) (n : Needs) (k : Code) (value : Meaning) → IsSized k → Right o n k value
+      → Right (where_type o type.Int type.Vector) n (behind k instr.NewVector) (λ seen turns. followed (value seen turns) new_vector)
+  new_vector_right o n k value sized right t at turns stack state is meets laid less =
+      let ty = where_is o type.Int type.Vector t is in
+      behind_goes k instr.NewVector o n value new_vector type.Int t at turns stack state sized right ty.0 tt meets laid less
+      (λ v left has there. subst (λ z. Evaluates s code 1 (frame (at + k.size) (v ∷ stack) variables left) state (at + k.size + 1) stack variables z (new_vector v left)) ty.1
+      (makes_vector s code variables state v (at + k.size) left stack has there))
+
+  -- a vector in a variable
+  vector_there : (v : ℕ) → HasSame c variables seen.variables v → variable_type c v ≡ Some type.Vector
+      → (longs : List ℤ) × (slice_get variables v ≡ Some (val.Vector longs)) × (variable_of seen v ≡ val.Vector longs)
+  vector_there v k is = by k.value (k.has_type ∙ some_is k.type type.Vector (sym k.is_type ∙ is)) k.is_here k.is_there
+    where
+      by : (w : Val) → values.type_of w ≡ type.Vector → slice_get variables v ≡ Some w → slice_get seen.variables v ≡ Some w
+          → (longs : List ℤ) × (slice_get variables v ≡ Some (val.Vector longs)) × (variable_of seen v ≡ val.Vector longs)
+      by (val.Vector longs) has here there = (longs, here, ap (λ o. unwrap_or o val.Unit) there)
+      by (val.Int n) has here there = absurd (cc)
+      by (val.Long n) has here there = absurd (cc)
+      by (val.Bool n) has here there = absurd (cc)
+      by val.Unit has here there = absurd (cc)
+
+  vector_size_goes : (v : ℕ) (t : ValueType) (at left : ℕ) (stack : List Val) (state : State) → where_type (variable_type c v) type.Vector type.Int ≡ Some t → HasSame c variables seen.variables v → slice_get code at ≡ Some (instr.VectorSize v)
+      → Evaluates s code 1 (frame at stack variables left) state (at + 1) stack variables t (Gives (size_of (variable_of seen v)) left)
+  vector_size_goes v t at left stack state is k there =
+      let ty = where_is (variable_type c v) type.Vector type.Int t is in
+      let w = vector_there v k ty.0 in
+      subst (λ z. Evaluates s code 1 (frame at stack variables left) state (at + 1) stack variables t (Gives (size_of z) left)) (sym w.2)
+      (gives_value s code variables state (instr.VectorSize v) (size_of (val.Vector w.0)) there (ap (λ o. machine.pushed (machine.size_of (machine.a_value o)) stack (frame at stack variables left)) w.1) (subst IsValue ty.1 tt) ty.1)
+
+  vector_element_right : (v : ℕ) (o : Option ValueType) (n : Needs) (k : Code) (value : Meaning) → IsSized k → Right o n k value
+      → Right (and_then (where_type (variable_type c v) type.Vector type.Long) (where_type o type.Int type.Long)) (both n (typing.variable_alone v)) (behind k (instr.VectorGet v)) (λ seen turns. followed (value seen turns) (element_of (variable_of seen v)))
+  vector_element_right v o n k value sized right t at turns stack state is meets laid less =
+      let m = meets_both c s variables seen n (typing.variable_alone v) meets in
+      let first = and_then_is (where_type (variable_type c v) type.Vector type.Long) (where_type o type.Int type.Long) t is in
+      let second = where_is o type.Int type.Long t first.2 in
+      let w = vector_there v m.1.variables.0 (where_is (variable_type c v) type.Vector type.Long first.0 first.1).0 in
+      behind_goes k (instr.VectorGet v) o n value (element_of (variable_of seen v)) type.Int t at turns stack state sized right second.0 tt m.0 laid less
+      (λ j left has there. subst (λ z. Evaluates s code 1 (frame (at + k.size) (j ∷ stack) variables left) state (at + k.size + 1) stack variables z (element_of (variable_of seen v) j left)) second.1
+      (subst (λ z. Evaluates s code 1 (frame (at + k.size) (j ∷ stack) variables left) state (at + k.size + 1) stack variables type.Long (element_of z j left)) (sym w.2)
+      (takes_element s code variables state (instr.VectorGet v) (val.Vector w.0) j (at + k.size) left (j ∷ stack) stack refl has there
+      (ap (λ o. machine.element (machine.a_value o) j stack (frame (at + k.size) (j ∷ stack) variables left)) w.1))))
+
+  -- ---- what was gathered
+
+  gathered_length_goes : (t : ValueType) (at left : ℕ) (stack : List Val) (state : State) → and_then c.members (Some type.Int) ≡ Some t → slice_get code at ≡ Some (instr.CollectionLength 0)
+      → Evaluates s code 1 (frame at stack variables left) state (at + 1) stack variables t (Gives (val.Int (pos (length seen.gathered))) left)
+  gathered_length_goes t at left stack state is there =
+      let e = some_is type.Int t (and_then_is c.members (Some type.Int) t is).2 in
+      gives_value s code variables state (instr.CollectionLength 0) (val.Int (pos (length seen.gathered))) there (ap (λ vs. machine.goes (val.Int (pos (length vs)) ∷ stack) (frame at stack variables left)) same.same) (subst IsValue e tt) e
+
+  -- A collection has members of values.
+  HasMembers : Type 0
+  HasMembers = (t : ValueType) → c.members ≡ Some t → IsValue t

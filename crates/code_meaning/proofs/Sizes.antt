@@ -16,14 +16,14 @@ use Rattle.body_code.specs.Codes.{Code, plain, followed_by, all_of}
 use Rattle.body_code.specs.ExpressionCode.{Lowered, behind, either, unary, binary, operand_of, code_step, lowered_step, lowered, code_of, codes_of}
 use Rattle.code_meaning.specs.Laid.{IsSized}
 
-followed_sized : (a b : Code) → IsSized a → IsSized b → IsSized (followed_by a b)
+pub followed_sized : (a b : Code) → IsSized a → IsSized b → IsSized (followed_by a b)
 followed_sized a b ha hb at =
     let x = length-append (a.from at) (b.from (at + a.size)) in
     let y = ha at in
     let z = hb (at + a.size) in
     omega arith
 
-behind_sized : (a : Code) (i : Instr) → IsSized a → IsSized (behind a i)
+pub behind_sized : (a : Code) (i : Instr) → IsSized a → IsSized (behind a i)
 behind_sized a i ha = followed_sized a (plain (i ∷ [])) ha (λ at. refl)
 
 either_sized : (a b : Code) → IsSized a → IsSized b → IsSized (either a b)
