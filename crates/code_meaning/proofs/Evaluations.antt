@@ -160,6 +160,31 @@ module _ (s : Setting) (code : List Instr) (variables : List Val) (state : State
   takes_element i (val.Bool m) j at left stack under hv hj is does = absurd (cc)
   takes_element i val.Unit j at left stack under hv hj is does = absurd (cc)
 
+  finds_value : (i : Instr) (o : Option Val) (at left : ℕ) (stack under : List Val) (t : ValueType) → slice_get code at ≡ Some i
+      → perform_on s i stack (frame at stack variables left) ≡ machine.found o under (frame at stack variables left)
+      → IsValue t → ((v : Val) → o ≡ Some v → values.type_of v ≡ t) → Evaluates s code 1 (frame at stack variables left) state (at + 1) under variables t (found (λ v. v) o left)
+  finds_value i None at left stack under t is does h has = throws i (Threw exn.Index) is does
+  finds_value i (Some v) at left stack under t is does h has = gives_value i v is does h (has v refl)
+
+  pub takes_member : (i : Instr) (members : List Val) (j : Val) (at left : ℕ) (stack under : List Val) (t : ValueType) → values.type_of j ≡ type.Int → slice_get code at ≡ Some i
+      → perform_on s i stack (frame at stack variables left) ≡ machine.member members j under (frame at stack variables left)
+      → IsValue t → AreOf t members → Evaluates s code 1 (frame at stack variables left) state (at + 1) under variables t (found (λ v. v) (member_at j members) left)
+  takes_member i members (val.Int (pos n)) at left stack under t hj is does h has = finds_value i (slice_get members n) at left stack under t is does h (has n)
+  takes_member i members (val.Int (negsuc n)) at left stack under t hj is does h has = throws i (Threw exn.Index) is does
+  takes_member i members (val.Long n) at left stack under t hj is does h has = absurd (cc)
+  takes_member i members (val.Bool n) at left stack under t hj is does h has = absurd (cc)
+  takes_member i members (val.Vector n) at left stack under t hj is does h has = absurd (cc)
+  takes_member i members val.Unit at left stack under t hj is does h has = absurd (cc)
+
+  pub gives_size : (i : Instr) (v : Val) (at left : ℕ) (stack under : List Val) → values.type_of v ≡ type.Vector → slice_get code at ≡ Some i
+      → perform_on s i stack (frame at stack variables left) ≡ machine.pushed (machine.size_of (Some v)) under (frame at stack variables left)
+      → Evaluates s code 1 (frame at stack variables left) state (at + 1) under variables type.Int (Gives (size_of v) left)
+  gives_size i (val.Vector longs) at left stack under has is does = gives_value i (val.Int (pos (length longs))) is does tt refl
+  gives_size i (val.Int n) at left stack under has is does = absurd (cc)
+  gives_size i (val.Long n) at left stack under has is does = absurd (cc)
+  gives_size i (val.Bool n) at left stack under has is does = absurd (cc)
+  gives_size i val.Unit at left stack under has is does = absurd (cc)
+
   -- the member at an index, and what follows; an index outside ends the call
   pub with_member : (i : Instr) (members : List Val) (j : Val) (g : Val → Option Performed) (k : Val → ℕ → Ended Val) (at left : ℕ) (stack under : List Val) (t : ValueType) → values.type_of j ≡ type.Int → slice_get code at ≡ Some i
       → perform_on s i stack (frame at stack variables left) ≡ machine.with_member members j g (frame at stack variables left)

@@ -43,8 +43,8 @@ use Rattle.code_meaning.specs.Evaluating.{IsValue, AreOf, HasSame, CallAgrees, H
 use Rattle.code_meaning.proofs.Lists.{none_some, some_is}
 use Rattle.code_meaning.proofs.Values.{AnswerHas, ValueHas, operation_has, unary_has, same_is}
 use Rattle.code_meaning.proofs.Running.{laid_two, stays, one_step, one_end, one_stop, leads_on, stops_on, wider, stops_wider, leads_to}
-use Rattle.code_meaning.proofs.Evaluations.{onward, wide, arrives, operand_then, gives_value, throws, answers, gives_one, either_goes, makes_vector, takes_element, with_member, and_then_is, where_is, boolean_cases}
-use Rattle.code_meaning.proofs.Sizes.{followed_sized, code_sized, codes_sized, type_beside}
+use Rattle.code_meaning.proofs.Evaluations.{onward, wide, arrives, operand_then, gives_value, throws, answers, gives_one, either_goes, makes_vector, takes_member, gives_size, takes_element, with_member, and_then_is, where_is, boolean_cases}
+use Rattle.code_meaning.proofs.Sizes.{followed_sized, behind_sized, code_sized, codes_sized, type_beside}
 use Rattle.code_meaning.proofs.Operands.{on_stack, a_value_is, variable_has_value, unary_values, plus_same, plus_type, AreTaken, binary_taken, condition_taken, operated_is, pushed_all, arguments_are}
 
 
@@ -359,6 +359,84 @@ module _ (c : Context) (calls : Calls) (s : Setting) (code : List Instr) (most :
       let e = some_is type.Int t (and_then_is c.members (Some type.Int) t is).2 in
       gives_value s code variables state (instr.CollectionLength 0) (val.Int (pos (length seen.gathered))) there (ap (λ vs. machine.goes (val.Int (pos (length vs)) ∷ stack) (frame at stack variables left)) same.same) (subst IsValue e tt) e
 
-  -- A collection has members of values.
-  HasMembers : Type 0
-  HasMembers = (t : ValueType) → c.members ≡ Some t → IsValue t
+  gathered_right : (o : Option ValueType) (n : Needs) (k : Code) (value : Meaning) → IsSized k → Right o n k value
+      → Right (and_then (where_type o type.Int type.Int) c.members) n (behind k (instr.CollectionItem 0)) (λ seen turns. followed (value seen turns) (gathered_at seen))
+  gathered_right o n k value sized right t at turns stack state is meets laid less =
+      let first = and_then_is (where_type o type.Int type.Int) c.members t is in
+      let second = where_is o type.Int type.Int first.0 first.1 in
+      behind_goes k (instr.CollectionItem 0) o n value (gathered_at seen) type.Int t at turns stack state sized right second.0 tt meets laid less
+      (λ j left has there. takes_member s code variables state (instr.CollectionItem 0) seen.gathered j (at + k.size) left (j ∷ stack) stack t has there
+      (ap (λ vs. machine.member vs j stack (frame (at + k.size) (j ∷ stack) variables left)) same.same) (same.are_values t first.2) (same.members t first.2))
+
+  gathered_size_right : (o : Option ValueType) (n : Needs) (k : Code) (value : Meaning) → IsSized k → Right o n k value
+      → Right (and_then (where_type o type.Int type.Int) (where_type c.members type.Vector type.Int)) n (behind k (instr.CollectionSize 0))
+      (λ seen turns. followed (value seen turns) (λ i left. followed (gathered_at seen i left) (λ v rest. Gives (size_of v) rest)))
+  gathered_size_right o n k value sized right t at turns stack state is meets laid less =
+      let first = and_then_is (where_type o type.Int type.Int) (where_type c.members type.Vector type.Int) t is in
+      let second = where_is o type.Int type.Int first.0 first.1 in
+      let third = where_is c.members type.Vector type.Int t first.2 in
+      behind_goes k (instr.CollectionSize 0) o n value (λ i left. followed (gathered_at seen i left) (λ v rest. Gives (size_of v) rest)) type.Int t at turns stack state sized right second.0 tt meets laid less
+      (λ j left has there. with_member s code variables state (instr.CollectionSize 0) seen.gathered j (machine.member_size stack (frame (at + k.size) (j ∷ stack) variables left)) (λ v rest. Gives (size_of v) rest) (at + k.size) left (j ∷ stack) stack t has there
+      (ap (λ vs. machine.with_member vs j (machine.member_size stack (frame (at + k.size) (j ∷ stack) variables left)) (frame (at + k.size) (j ∷ stack) variables left)) same.same)
+      (λ v m is_member does. subst (λ z. Evaluates s code 1 (frame (at + k.size) (j ∷ stack) variables left) state (at + k.size + 1) stack variables z (Gives (size_of v) left)) third.1
+      (gives_size s code variables state (instr.CollectionSize 0) v (at + k.size) left (j ∷ stack) stack (same.members type.Vector third.0 m v is_member) there does)))
+
+  -- The index is tested, and then the code of the other index follows.
+  checked_goes : (b : Code) (ob : Option ValueType) (nb : Needs) (vb : Meaning) → IsSized b → Right ob nb b vb → ob ≡ Some type.Int → Meets c s variables seen nb → AreOf type.Vector seen.gathered
+      → (j : Val) (at left : ℕ) (stack : List Val) (state : State) → values.type_of j ≡ type.Int → left ≤ most → slice_get code at ≡ Some (instr.CollectionCheck 0) → IsLaid code (at + 1) (b.from (at + 1)) → slice_get code (at + 1 + b.size) ≡ Some (instr.CollectionGet 0)
+      → Evaluates s code (1 + (b.size + 1)) (frame at (j ∷ stack) variables left) state (at + 1 + b.size + 1) stack variables type.Long (followed (gathered_at seen j left) (λ v rest. followed (vb seen rest) (element_of v)))
+  checked_goes b ob nb vb sized rb ib meets vectors (val.Int (pos m)) at left stack state has less check laid get = by (slice_get seen.gathered m) refl
+    where
+      j : Val
+      j = val.Int (pos m)
+      here : Frame
+      here = frame at (val.Int (pos m) ∷ stack) variables left
+      does : perform_on s (instr.CollectionCheck 0) (val.Int (pos m) ∷ stack) (frame at (val.Int (pos m) ∷ stack) variables left)
+          ≡ machine.with_found (slice_get seen.gathered m) (machine.member_checked (val.Int (pos m)) stack (frame at (val.Int (pos m) ∷ stack) variables left)) (frame at (val.Int (pos m) ∷ stack) variables left)
+      does = ap (λ vs. machine.with_member vs (val.Int (pos m)) (machine.member_checked (val.Int (pos m)) stack (frame at (val.Int (pos m) ∷ stack) variables left)) (frame at (val.Int (pos m) ∷ stack) variables left)) same.same
+      by : (o : Option Val) → slice_get seen.gathered m ≡ o
+          → Evaluates s code (1 + (b.size + 1)) (frame at (val.Int (pos m) ∷ stack) variables left) state (at + 1 + b.size + 1) stack variables type.Long (followed (found (λ v. v) o left) (λ v rest. followed (vb seen rest) (element_of v)))
+      by None there = record { does = stops_wider s code (omega arith) (one_stop s code (instr.CollectionCheck 0) check
+          (does ∙ ap (λ o. machine.with_found o (machine.member_checked (val.Int (pos m)) stack (frame at (val.Int (pos m) ∷ stack) variables left)) (frame at (val.Int (pos m) ∷ stack) variables left)) there)) }
+      by (Some v) there =
+          let e : suc at ≡ at + 1 = omega arith in
+          let checked : perform_on s (instr.CollectionCheck 0) (val.Int (pos m) ∷ stack) (frame at (val.Int (pos m) ∷ stack) variables left) ≡ Some (Goes (frame (suc at) (val.Int (pos m) ∷ stack) variables left)) =
+              does ∙ ap (λ o. machine.with_found o (machine.member_checked (val.Int (pos m)) stack (frame at (val.Int (pos m) ∷ stack) variables left)) (frame at (val.Int (pos m) ∷ stack) variables left)) there in
+          let test : Leads s code 1 (frame at (val.Int (pos m) ∷ stack) variables left) state (frame (at + 1) (val.Int (pos m) ∷ stack) variables left) state =
+              leads_to s code e (one_step s code (instr.CollectionCheck 0) check checked (omega arith)) in
+          onward s code variables state (followed (vb seen left) (element_of v)) test
+          (operand_then s code variables state (vb seen left) (element_of v) tt (rb type.Int (at + 1) left (val.Int (pos m) ∷ stack) state ib meets laid less) (λ w rest hw l.
+          takes_element s code variables state (instr.CollectionGet 0) v w (at + 1 + b.size) rest (w ∷ val.Int (pos m) ∷ stack) stack (vectors m v there) hw get
+          (ap (λ vs. machine.with_found (slice_get vs m) (machine.member_element w stack (frame (at + 1 + b.size) (w ∷ val.Int (pos m) ∷ stack) variables rest)) (frame (at + 1 + b.size) (w ∷ val.Int (pos m) ∷ stack) variables rest)) same.same
+          ∙ ap (λ o. machine.with_found o (machine.member_element w stack (frame (at + 1 + b.size) (w ∷ val.Int (pos m) ∷ stack) variables rest)) (frame (at + 1 + b.size) (w ∷ val.Int (pos m) ∷ stack) variables rest)) there)))
+  checked_goes b ob nb vb sized rb ib meets vectors (val.Int (negsuc m)) at left stack state has less check laid get = record { does = stops_wider s code (omega arith) (one_stop s code (instr.CollectionCheck 0) check refl) }
+  checked_goes b ob nb vb sized rb ib meets vectors (val.Long m) at left stack state has less check laid get = absurd (cc)
+  checked_goes b ob nb vb sized rb ib meets vectors (val.Bool m) at left stack state has less check laid get = absurd (cc)
+  checked_goes b ob nb vb sized rb ib meets vectors (val.Vector m) at left stack state has less check laid get = absurd (cc)
+  checked_goes b ob nb vb sized rb ib meets vectors val.Unit at left stack state has less check laid get = absurd (cc)
+
+  gathered_element_right : (oa ob : Option ValueType) (na nb : Needs) (a b : Code) (va vb : Meaning) → IsSized a → IsSized b → Right oa na a va → Right ob nb b vb
+      → Right (and_then (where_type oa type.Int type.Int) (and_then (where_type c.members type.Vector type.Long) (where_type ob type.Int type.Long))) (both na nb)
+      (behind (followed_by (behind a (instr.CollectionCheck 0)) b) (instr.CollectionGet 0))
+      (λ seen turns. followed (va seen turns) (λ i left. followed (gathered_at seen i left) (λ v rest. followed (vb seen rest) (element_of v))))
+  gathered_element_right oa ob na nb a b va vb ha hb ra rb t at turns stack state is meets laid less =
+      let first = and_then_is (where_type oa type.Int type.Int) (and_then (where_type c.members type.Vector type.Long) (where_type ob type.Int type.Long)) t is in
+      let index = where_is oa type.Int type.Int first.0 first.1 in
+      let second = and_then_is (where_type c.members type.Vector type.Long) (where_type ob type.Int type.Long) t first.2 in
+      let vectors = where_is c.members type.Vector type.Long second.0 second.1 in
+      let other = where_is ob type.Int type.Long t second.2 in
+      let m = meets_both c s variables seen na nb meets in
+      let outer = laid_two code at (a.size + 1 + b.size) ((a.from at ++ instr.CollectionCheck 0 ∷ []) ++ b.from (at + (a.size + 1))) (instr.CollectionGet 0 ∷ []) (followed_sized (behind a (instr.CollectionCheck 0)) b (behind_sized a (instr.CollectionCheck 0) ha) hb at) laid in
+      let middle = laid_two code at (a.size + 1) (a.from at ++ instr.CollectionCheck 0 ∷ []) (b.from (at + (a.size + 1))) (behind_sized a (instr.CollectionCheck 0) ha at) outer.0 in
+      let inner = laid_two code at a.size (a.from at) (instr.CollectionCheck 0 ∷ []) (ha at) middle.0 in
+      let e1 : at + (a.size + 1) ≡ at + a.size + 1 = omega arith in
+      let e2 : at + (a.size + 1 + b.size) ≡ at + a.size + 1 + b.size = omega arith in
+      let e3 : at + a.size + 1 + b.size + 1 ≡ at + (a.size + 1 + b.size + 1) = omega arith in
+      let there : IsLaid code (at + a.size + 1) (b.from (at + a.size + 1)) = subst (λ k. IsLaid code k (b.from k)) e1 middle.1 in
+      let get : slice_get code (at + a.size + 1 + b.size) ≡ Some (instr.CollectionGet 0) = subst (λ k. slice_get code k ≡ Some (instr.CollectionGet 0)) e2 outer.1.0 in
+      let g : Val → ℕ → Ended Val = λ i left. followed (gathered_at seen i left) (λ v rest. followed (vb seen rest) (element_of v)) in
+      subst (λ z. Evaluates s code (a.size + 1 + b.size + 1) (frame at stack variables turns) state (at + (a.size + 1 + b.size + 1)) stack variables z (followed (va seen turns) g)) other.1
+      (wide s code variables state (followed (va seen turns) g) (omega arith)
+      (arrives s code variables state e3
+      (operand_then s code variables state (va seen turns) g tt (ra type.Int at turns stack state index.0 m.0 inner.0 less) (λ i left has l.
+      checked_goes b ob nb vb hb rb other.0 m.1 (same.members type.Vector vectors.0) i (at + a.size) left stack state has (omega arith) inner.1.0 there get))))

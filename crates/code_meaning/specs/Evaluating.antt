@@ -86,6 +86,7 @@ pub record Meets (c : Context) (s : Setting) (here : List Val) (seen : Seen) (n 
 pub record GathersSame (c : Context) (s : Setting) (seen : Seen) : Type 0 where
   pub same : s.gathered ≡ seen.gathered
   pub members : (t : ValueType) → c.members ≡ Some t → AreOf t seen.gathered
+  pub are_values : (t : ValueType) → c.members ≡ Some t → IsValue t
 
 -- ---- values
 
