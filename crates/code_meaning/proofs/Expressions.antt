@@ -1,5 +1,6 @@
 -- The code of an expression gives its value.
 use Rattle.std.proofs.Common.{◌≡◌, ◌≢◌, ◌≤◌, ◌<◌, refl, sym, ap, ap₂, subst, ◌∙◌, ℕ, zero, suc, ◌+◌, ℤ, pos, negsuc, arith, Bool, true, false, cond, ◌||◌, if◌then◌else◌, nat_lt, List, [], ◌∷◌, ◌++◌, map, length, replicate, Option, Some, None, Result, Ok, Err, slice_get, unwrap_or, length-append}
+use mathlib.Core.Path.{transport}
 use Rattle.std.specs.List.{AllByRecursion}
 use Rattle.std.proofs.lemmas.Bool.{false≢true}
 use Rattle.sdg_base.specs.declared.operator.BinOp.{BinOp}
@@ -19,7 +20,7 @@ use Rattle.sdg_base.specs.declared.value_type.ValueType.TheVariants as type
 use Rattle.sdg_base.specs.Operations.{Answer, operation, unary_operation, converted}
 use Rattle.sdg_base.specs.Types as values
 use Rattle.sdg_base.specs.Types.{binary_type, unary_type}
-use Rattle.flat_code.specs.Types.{same_type, right_type}
+use Rattle.flat_code.specs.Types.{same_type, same_types, right_type}
 use Rattle.state_classes.specs.States.{State}
 use Rattle.flat_code.specs.declared.graph.Instr.{Instr}
 use Rattle.flat_code.specs.declared.graph.Instr.TheVariants as instr
@@ -33,15 +34,18 @@ use Rattle.access_blocks.specs.declared.halt.Halt.{Halt}
 use Rattle.access_blocks.specs.declared.halt.Halt.TheVariants.{Threw, OutOfTurns, TooLong}
 use Rattle.access_blocks.specs.Expressions.{Calls, Ended, Gives, Ends, Seen, Meaning, followed, outcome_of, answered, given, is_true, after_first, new_vector, most_elements, member_at, found, longs_in, size_of, variable_of, element_of, gathered_at, expression_step, value_of}
 use Rattle.access_blocks.specs.Expressions as source
+use Rattle.java_tree.specs.declared.method_kinds.MethodKind.{MethodKind}
+use Rattle.java_tree.specs.declared.method_kinds.MethodKind.TheVariants.{Entry, Helper, Merge}
+use Rattle.body_code.specs.declared.callee.Callee.{Callee}
 use Rattle.body_code.specs.Typing.{Context, Needs, both, needs, needs_step, type_of, type_step, variable_type, of_one, of_two, cast_type, chosen_type, alike, where_type, and_then, all_types, with_type, called_type, called_by, merged_type, merged_by}
 use Rattle.body_code.specs.Typing as typing
 use Rattle.body_code.specs.Codes.{Code, plain, followed_by}
 use Rattle.body_code.specs.Codes as codes
-use Rattle.body_code.specs.ExpressionCode.{Lowered, behind, either, unary, binary, operand_of, code_step, lowered_step, lowered, code_of}
+use Rattle.body_code.specs.ExpressionCode.{Lowered, behind, either, unary, binary, operand_of, code_step, lowered_step, lowered, code_of, codes_of}
 use Rattle.code_meaning.specs.Laid.{IsSized, IsLaid, frame, Leads, EndsSo, Stops}
-use Rattle.code_meaning.specs.Evaluating.{IsValue, AreOf, HasSame, CallAgrees, HelperAgrees, CallsAgree, MergesThese, HasKey, Meets, GathersSame, Evaluates}
+use Rattle.code_meaning.specs.Evaluating.{IsValue, AreOf, HasSame, CallAgrees, HelperAgrees, CallsAgree, MergesThese, HasKey, Meets, GathersSame, Evaluates, ExpressionsGiveTheirValues}
 use Rattle.code_meaning.proofs.Lists.{none_some, some_is}
-use Rattle.code_meaning.proofs.Values.{AnswerHas, ValueHas, operation_has, unary_has, same_is}
+use Rattle.code_meaning.proofs.Values.{AnswerHas, ValueHas, operation_has, unary_has, same_is, same_are}
 use Rattle.code_meaning.proofs.Running.{laid_two, stays, one_step, one_end, one_stop, leads_on, stops_on, wider, stops_wider, leads_to}
 use Rattle.code_meaning.proofs.Evaluations.{onward, wide, arrives, operand_then, gives_value, throws, answers, gives_one, either_goes, makes_vector, takes_member, gives_size, takes_element, with_member, and_then_is, where_is, boolean_cases}
 use Rattle.code_meaning.proofs.Sizes.{followed_sized, behind_sized, code_sized, codes_sized, type_beside}
@@ -440,3 +444,173 @@ module _ (c : Context) (calls : Calls) (s : Setting) (code : List Instr) (most :
       (arrives s code variables state e3
       (operand_then s code variables state (va seen turns) g tt (ra type.Int at turns stack state index.0 m.0 inner.0 less) (λ i left has l.
       checked_goes b ob nb vb hb rb other.0 m.1 (same.members type.Vector vectors.0) i (at + a.size) left stack state has (omega arith) inner.1.0 there get))))
+
+  -- ---- calls
+
+  called_gives : (i : Instr) (x : Ended Val) (gave : Option Called) (t : ValueType) (at left : ℕ) (stack under : List Val) (state : State) → CallAgrees t left x gave → slice_get code at ≡ Some i
+      → perform_on s i stack (frame at stack variables left) ≡ machine.after_call gave under (frame at stack variables left)
+      → Evaluates s code 1 (frame at stack variables left) state (at + 1) under variables t x
+  called_gives i (Gives v rest) gave t at left stack under state agrees is does =
+      let e : suc at ≡ at + 1 = omega arith in
+      record { does = (agrees.1, leads_to s code e (one_step s code i is (does ∙ ap (λ g. machine.after_call g under (frame at stack variables left)) agrees.0) agrees.2)) }
+  called_gives i (Ends h) gave t at left stack under state agrees is does =
+      record { does = one_stop s code i is (does ∙ ap (λ g. machine.after_call g under (frame at stack variables left)) agrees) }
+
+  -- A turn is spent, and then the method is called.
+  spends_and_calls : (i : Instr) (x : ℕ → Ended Val) (gave : ℕ → Option Called) (t : ValueType) (at left : ℕ) (stack under : List Val) (state : State) → left ≤ most
+      → x zero ≡ Ends OutOfTurns → ((turns : ℕ) → turns < most → CallAgrees t turns (x (suc turns)) (gave turns)) → IsLaid code at (instr.Turn ∷ i ∷ [])
+      → ((turns : ℕ) → perform_on s i stack (frame (suc at) stack variables turns) ≡ machine.after_call (gave turns) under (frame (suc at) stack variables turns))
+      → Evaluates s code 2 (frame at stack variables left) state (at + 2) under variables t (x left)
+  spends_and_calls i x gave t at zero stack under state less out agrees laid does =
+      subst (λ z. Evaluates s code 2 (frame at stack variables zero) state (at + 2) under variables t z) (sym out) (record { does = stops_wider s code (omega arith) (one_stop s code instr.Turn laid.0 refl) })
+  spends_and_calls i x gave t at (suc left) stack under state less out agrees laid does =
+      let e : suc at + 1 ≡ at + 2 = omega arith in
+      let turn : Leads s code 1 (frame at stack variables (suc left)) state (frame (suc at) stack variables left) state = one_step s code instr.Turn laid.0 refl (omega arith) in
+      arrives s code variables state e
+      (onward s code variables state (x (suc left)) turn (called_gives i (x (suc left)) (gave left) t (suc at) left stack under state (agrees left (omega arith)) laid.1.0 (does left)))
+
+  called_is : (o : Option Callee) (args : Option (List ValueType)) (t : ValueType) → called_type o args ≡ Some t → (callee : Callee) × (o ≡ Some callee) × (callee.kind ≡ Helper) × (args ≡ Some callee.params) × (callee.result ≡ t)
+  called_is None args t is = absurd (none_some t is)
+  called_is (Some m) None t is = absurd (none_some t is)
+  called_is (Some m) (Some args) t is = by m.kind refl is
+    where
+      types : (b : Bool) → same_types args m.params ≡ b → m.kind ≡ Helper → cond b (Some m.result) None ≡ Some t → (callee : Callee) × (Some m ≡ Some callee) × (callee.kind ≡ Helper) × (Some args ≡ Some callee.params) × (callee.result ≡ t)
+      types true e h is = (m, refl, h, ap Some (same_are args m.params e), some_is m.result t is)
+      types false e h is = absurd (none_some t is)
+      by : (k : MethodKind) → m.kind ≡ k → called_by k m.params m.result args ≡ Some t → (callee : Callee) × (Some m ≡ Some callee) × (callee.kind ≡ Helper) × (Some args ≡ Some callee.params) × (callee.result ≡ t)
+      by Helper h is = types (same_types args m.params) refl h is
+      by Entry h is = absurd (none_some t is)
+      by Merge h is = absurd (none_some t is)
+
+  then_call : {na at to : ℕ} {f : Frame} {stack : List Val} {ts : List ValueType} {t : ValueType} {state : State} (x : Ended (List Val)) (k : List Val → ℕ → Ended Val) → EvaluatesAll s code na f state at stack variables ts x
+      → ((vs : List Val) (left : ℕ) → map values.type_of vs ≡ ts → left ≤ f.turns → Evaluates s code 2 (frame at (pushed_all vs stack) variables left) state to stack variables t (k vs left))
+      → Evaluates s code (na + 2) f state to stack variables t (source.followed x k)
+  then_call {state = state} (Gives vs left) k q more = onward s code variables state (k vs left) q.does.1 (more vs left q.does.0 q.does.1.falls)
+  then_call (Ends h) k q more = record { does = stops_wider s code (omega arith) q.does }
+
+  args_length : (vs : List Val) (ts : List ValueType) → map values.type_of vs ≡ ts → length vs ≡ length ts
+  args_length [] ts is = ap length is
+  args_length (v ∷ vs) [] is = absurd (cc)
+  args_length (v ∷ vs) (t ∷ ts) is = let h : map values.type_of vs ≡ ts = cc in ap suc (args_length vs ts h)
+
+  call_right : (m : ℕ) (os : Option (List ValueType)) (ns : Needs) (ks : Code) (all : Seen → ℕ → Ended (List Val)) → IsSized ks → AllRight os ns ks all
+      → Right (called_type (slice_get c.methods m) os) ns (followed_by ks (plain (instr.Turn ∷ instr.Call m ∷ []))) (λ seen turns. source.followed (all seen turns) (λ vs left. calls m vs [] left))
+  call_right m os ns ks all sized right t at turns stack state is meets laid less =
+      let k = called_is (slice_get c.methods m) os t is in
+      let callee = k.0 in
+      let h : HelperAgrees m callee s.methods calls s.calls most = agree.helpers m callee k.1 k.2 in
+      let parts = laid_two code at ks.size (ks.from at) (instr.Turn ∷ instr.Call m ∷ []) (sized at) laid in
+      let e : at + ks.size + 2 ≡ at + (ks.size + 2) = omega arith in
+      subst (λ z. Evaluates s code (ks.size + 2) (frame at stack variables turns) state (at + (ks.size + 2)) stack variables z (source.followed (all seen turns) (λ vs left. calls m vs [] left))) k.4
+      (arrives s code variables state e
+      (then_call (all seen turns) (λ vs left. calls m vs [] left) (right callee.params at turns stack state k.3 h.take_values meets parts.0 less) (λ vs left has l.
+      spends_and_calls (instr.Call m) (calls m vs []) (s.calls m vs []) callee.result (at + ks.size) left (pushed_all vs stack) stack state (omega arith) (agree.want_a_turn m vs []) (λ turns fewer. h.agrees vs turns has fewer) parts.1 (λ turns.
+      let there : Frame = frame (suc (at + ks.size)) (pushed_all vs stack) variables turns in
+      ap (λ o. machine.call s.calls m o (pushed_all vs stack) there) h.is_method
+      ∙ ap (λ n. machine.call_on s.calls m (machine.arguments n (pushed_all vs stack)) there) (h.as_many ∙ sym (args_length vs callee.params has))
+      ∙ ap (λ o. machine.call_on s.calls m o there) (arguments_are vs stack)))))
+
+  merged_is : (o : Option Callee) (t : ValueType) → merged_type o ≡ Some t → (callee : Callee) × (o ≡ Some callee) × (callee.result ≡ t)
+  merged_is None t is = absurd (none_some t is)
+  merged_is (Some m) t is = by m.kind is
+    where
+      by : (k : MethodKind) → merged_by k m.result ≡ Some t → (callee : Callee) × (Some m ≡ Some callee) × (callee.result ≡ t)
+      by Merge is = (m, refl, some_is m.result t is)
+      by Entry is = absurd (none_some t is)
+      by Helper is = absurd (none_some t is)
+
+  merge_right : (m : ℕ) → Right (merged_type (slice_get c.methods m)) (typing.merge_alone m) (plain (instr.Turn ∷ instr.Merge m ∷ [])) (λ seen turns. calls m (val.Unit ∷ []) seen.gathered turns)
+  merge_right m t at turns stack state is meets laid less =
+      let k = merged_is (slice_get c.methods m) t is in
+      let h : MergesThese c seen.gathered m = meets.merges.0 in
+      let e : h.callee.result ≡ t = ap (λ (z : Callee). z.result) (some_is h.callee k.0 (sym h.is_callee ∙ k.1)) ∙ k.2 in
+      subst (λ z. Evaluates s code 2 (frame at stack variables turns) state (at + 2) stack variables z (calls m (val.Unit ∷ []) seen.gathered turns)) e
+      (spends_and_calls (instr.Merge m) (calls m (val.Unit ∷ []) seen.gathered) (s.calls m (val.Unit ∷ []) seen.gathered) h.callee.result at turns stack stack state less (agree.want_a_turn m (val.Unit ∷ []) seen.gathered)
+      (λ turns fewer. agree.merges m h.callee h.type seen.gathered turns h.is_callee h.merges h.takes h.are_of fewer) laid (λ turns.
+      ap (λ vs. machine.after_call (s.calls m (val.Unit ∷ []) vs turns) stack (frame (suc at) stack variables turns)) same.same))
+
+  -- ---- all expressions
+
+  abbrev IsRight : Expression → Type 0
+  IsRight x = Right (type_of c x) (needs x) (code_of c x) (value_of calls x)
+
+  abbrev Part : Type 0
+  Part = (x : Expression) × IsRight x
+
+  abbrev bare : Expression-F Part → Expression-F Expression
+  bare = map-Expression Part Expression (λ x. x.0)
+
+  abbrev types : Expression-F Expression → Expression-F (Option ValueType)
+  types = map-Expression Expression (Option ValueType) (type_of c)
+
+  abbrev needed : Expression-F Expression → Expression-F Needs
+  needed = map-Expression Expression Needs needs
+
+  abbrev low : Expression-F Expression → Expression-F Lowered
+  low = map-Expression Expression Lowered (lowered c)
+
+  abbrev meant : Expression-F Expression → Expression-F Meaning
+  meant = map-Expression Expression Meaning (value_of calls)
+
+  abbrev LayerRight : Expression-F Expression → Type 0
+  LayerRight y = Right (type_step c (types y)) (needs_step (needed y)) (code_step (low y)) (expression_step calls (meant y))
+
+  args_sized : (xs : List Part) → IsSized (codes.all_of (map (λ (a : Lowered). a.code) (map (lowered c) (map (λ (x : Part). x.0) xs))))
+  args_sized [] at = refl
+  args_sized (x ∷ xs) at = followed_sized (code_of c x.0) (codes.all_of (map (λ (a : Lowered). a.code) (map (lowered c) (map (λ (y : Part). y.0) xs)))) (code_sized c x.0) (args_sized xs) at
+
+  args_right : (xs : List Part) → AllRight (all_types (map (type_of c) (map (λ (x : Part). x.0) xs))) (typing.all_of (map needs (map (λ (x : Part). x.0) xs)))
+      (codes.all_of (map (λ (a : Lowered). a.code) (map (lowered c) (map (λ (x : Part). x.0) xs)))) (source.all_of (map (value_of calls) (map (λ (x : Part). x.0) xs)))
+  args_right [] ts at turns stack state is h meets laid less = none_right ts at turns stack state is h meets laid less
+  args_right (x ∷ xs) ts at turns stack state is h meets laid less =
+      more_right (type_of c x.0) (all_types (map (type_of c) (map (λ (y : Part). y.0) xs))) (needs x.0) (typing.all_of (map needs (map (λ (y : Part). y.0) xs)))
+      (code_of c x.0) (codes.all_of (map (λ (a : Lowered). a.code) (map (lowered c) (map (λ (y : Part). y.0) xs)))) (value_of calls x.0) (source.all_of (map (value_of calls) (map (λ (y : Part). y.0) xs)))
+      (code_sized c x.0) x.1 (args_right xs) ts at turns stack state is h meets laid less
+
+  layer_right : (y : Expression-F Part) → LayerRight (bare y)
+  layer_right e.Nothing t at turns stack state is meets laid less = absurd (none_some t is)
+  layer_right (e.Int n) t at turns stack state is meets laid less = let h = some_is type.Int t is in gives_value s code variables state (instr.Int n) (val.Int n) laid.0 refl (subst IsValue h tt) h
+  layer_right (e.Long n) t at turns stack state is meets laid less = let h = some_is type.Long t is in gives_value s code variables state (instr.Long n) (val.Long n) laid.0 refl (subst IsValue h tt) h
+  layer_right (e.Bool b) t at turns stack state is meets laid less = let h = some_is type.Boolean t is in gives_value s code variables state (instr.Bool b) (val.Bool b) laid.0 refl (subst IsValue h tt) h
+  layer_right (e.Variable v) t at turns stack state is meets laid less = variable_goes v meets.variables.0 t at turns stack state is laid.0
+  layer_right e.CarriedKey t at turns stack state is meets laid less = key_goes t at turns stack state is (meets.key refl) laid.0
+  layer_right (e.Unary op a) t at turns stack state is meets laid less = unary_right op (type_of c a.0) (needs a.0) (code_of c a.0) (value_of calls a.0) (code_sized c a.0) a.1 t at turns stack state is meets laid less
+  layer_right (e.Binary op a b) t at turns stack state is meets laid less =
+      binary_right op (lowered c a.0) (lowered c b.0) (type_of c a.0) (type_of c b.0) (needs a.0) (needs b.0) (value_of calls a.0) (value_of calls b.0) (type_beside c a.0) (code_sized c a.0) (code_sized c b.0) a.1 b.1 t at turns stack state is meets laid less
+  layer_right (e.Cast to a) t at turns stack state is meets laid less = cast_right to (type_of c a.0) (needs a.0) (code_of c a.0) (value_of calls a.0) (code_sized c a.0) a.1 t at turns stack state is meets laid less
+  layer_right (e.Conditional test a b) t at turns stack state is meets laid less =
+      conditional_right (type_of c test.0) (type_of c a.0) (type_of c b.0) (needs test.0) (needs a.0) (needs b.0) (code_of c test.0) (code_of c a.0) (code_of c b.0) (value_of calls test.0) (value_of calls a.0) (value_of calls b.0)
+      (code_sized c test.0) (code_sized c a.0) (code_sized c b.0) test.1 a.1 b.1 t at turns stack state is meets laid less
+  layer_right (e.NewVector n) t at turns stack state is meets laid less = new_vector_right (type_of c n.0) (needs n.0) (code_of c n.0) (value_of calls n.0) (code_sized c n.0) n.1 t at turns stack state is meets laid less
+  layer_right (e.VectorSize v) t at turns stack state is meets laid less = vector_size_goes v t at turns stack state is meets.variables.0 laid.0
+  layer_right (e.VectorElement v j) t at turns stack state is meets laid less = vector_element_right v (type_of c j.0) (needs j.0) (code_of c j.0) (value_of calls j.0) (code_sized c j.0) j.1 t at turns stack state is meets laid less
+  layer_right e.GatheredLength t at turns stack state is meets laid less = gathered_length_goes t at turns stack state is laid.0
+  layer_right (e.Gathered j) t at turns stack state is meets laid less = gathered_right (type_of c j.0) (needs j.0) (code_of c j.0) (value_of calls j.0) (code_sized c j.0) j.1 t at turns stack state is meets laid less
+  layer_right (e.GatheredSize j) t at turns stack state is meets laid less = gathered_size_right (type_of c j.0) (needs j.0) (code_of c j.0) (value_of calls j.0) (code_sized c j.0) j.1 t at turns stack state is meets laid less
+  layer_right (e.GatheredElement j k) t at turns stack state is meets laid less =
+      gathered_element_right (type_of c j.0) (type_of c k.0) (needs j.0) (needs k.0) (code_of c j.0) (code_of c k.0) (value_of calls j.0) (value_of calls k.0) (code_sized c j.0) (code_sized c k.0) j.1 k.1 t at turns stack state is meets laid less
+  layer_right (e.Call m args) t at turns stack state is meets laid less =
+      call_right m (all_types (map (type_of c) (map (λ (x : Part). x.0) args))) (typing.all_of (map needs (map (λ (x : Part). x.0) args)))
+      (codes.all_of (map (λ (a : Lowered). a.code) (map (lowered c) (map (λ (x : Part). x.0) args)))) (source.all_of (map (value_of calls) (map (λ (x : Part). x.0) args))) (args_sized args) (args_right args) t at turns stack state is meets laid less
+  layer_right (e.Merge m) t at turns stack state is meets laid less = merge_right m t at turns stack state is meets laid less
+
+  made_right : (x : Expression-F Expression) (y : Expression-F Part) → bare y ≡ x → IsRight (roll-Expression x)
+  made_right x y is =
+      let o = fold-roll-Expression (Option ValueType) (type_step c) x in
+      let n = fold-roll-Expression Needs needs_step x in
+      let l = fold-roll-Expression Lowered (lowered_step c) x in
+      let v = fold-roll-Expression Meaning (expression_step calls) x in
+      let whole : Right (type_of c (roll-Expression x)) (needs (roll-Expression x)) (code_of c (roll-Expression x)) (value_of calls (roll-Expression x)) ≡ LayerRight x =
+          λ i. Right (o i) (n i) (l i).code (v i) in
+      transport (sym whole) (subst LayerRight is (layer_right y))
+
+  pub expression_right : (x : Expression) → IsRight x
+  expression_right = ind-Expression IsRight made_right
+
+  pub expressions_right : (xs : List Expression) → AllRight (typing.types_of c xs) (typing.needs_of_all xs) (codes_of c xs) (source.values_of calls xs)
+  expressions_right [] ts at turns stack state is h meets laid less = none_right ts at turns stack state is h meets laid less
+  expressions_right (x ∷ xs) ts at turns stack state is h meets laid less =
+      more_right (type_of c x) (typing.types_of c xs) (needs x) (typing.needs_of_all xs) (code_of c x) (codes_of c xs) (value_of calls x) (source.values_of calls xs) (code_sized c x) (expression_right x) (expressions_right xs) ts at turns stack state is h meets laid less
+
+pub expressions_give_their_values : ExpressionsGiveTheirValues
+expressions_give_their_values c calls s code most agree variables seen same x t at turns stack state is meets laid less = expression_right c calls s code most agree variables seen same x t at turns stack state is meets laid less

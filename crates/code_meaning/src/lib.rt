@@ -3,4 +3,4 @@
 
 mod law;
 
-pub use law::expressions_mean_their_code;
+pub use law::flat_code_means_its_source;
