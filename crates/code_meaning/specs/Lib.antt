@@ -1,2 +1,3 @@
 pub mod Laid
 pub mod Evaluating
+pub mod Running
