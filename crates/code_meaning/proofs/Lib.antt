@@ -6,3 +6,6 @@ mod Sizes
 mod Operands
 mod Evaluations
 mod Expressions
+mod Agreeing
+mod Sites
+mod Completing
