@@ -9,3 +9,5 @@ mod Expressions
 mod Agreeing
 mod Sites
 mod Completing
+mod PieceSizes
+mod Growing
