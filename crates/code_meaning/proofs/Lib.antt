@@ -11,3 +11,4 @@ mod Sites
 mod Completing
 mod PieceSizes
 mod Growing
+mod Simple
