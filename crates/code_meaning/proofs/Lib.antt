@@ -12,3 +12,4 @@ mod Completing
 mod PieceSizes
 mod Growing
 mod Simple
+mod Loops

@@ -7,6 +7,7 @@ use Rattle.sdg_base.specs.declared.val.Outcome.TheVariants as outcome
 use Rattle.state_classes.specs.declared.method.Method.{Method}
 use Rattle.state_classes.specs.States.{State, called}
 use Rattle.flat_code.specs.declared.graph.Instr.{Instr}
+use Rattle.flat_code.specs.declared.graph.Instr.TheVariants as instr
 use Rattle.flat_code.specs.Machine.{Setting, Frame, Ending, Stopped, Performed, Goes, Accesses, Ends, Ran, perform, perform_on, after, after_access, pushed_result, run_within}
 use Rattle.code_meaning.specs.Laid.{IsLaid, frame, Leads, EndsSo, Stops}
 
@@ -87,6 +88,14 @@ module _ (s : Setting) (code : List Instr) where
     falls = falls;
     few = omega arith;
   }
+
+  -- The step of a turn is one.
+  pub one_turn : (at left : ℕ) (stack variables : List Val) (state : State) → slice_get code at ≡ Some instr.Turn → (n : ℕ)
+      → run_within (1 + n) s code (frame at stack variables (suc left)) state ≡ run_within n s code (frame (at + 1) stack variables left) state
+  one_turn at left stack variables state is n =
+      let e : suc at ≡ at + 1 = omega arith in
+      subst (λ k. run_within (1 + n) s code (frame at stack variables (suc left)) state ≡ run_within n s code (frame k stack variables left) state) e
+      (performed n instr.Turn (frame at stack variables (suc left)) state (Some (Goes (frame (suc at) stack variables left))) is refl)
 
   pub one_end : (i : Instr) {f g : Frame} {state : State} {ending : Ending} → slice_get code f.at ≡ Some i → perform_on s i f.stack f ≡ Some (Ends ending g) → EndsSo s code 1 f state ending g state
   one_end i {f} {g} {state} {ending} is does = record {

@@ -1,0 +1,135 @@
+-- The code of a loop does what the loop means, pass by pass: each pass spends a turn.
+use Rattle.std.proofs.Common.{◌≡◌, ◌≤◌, ◌<◌, refl, sym, ap, subst, ◌∙◌, ℕ, zero, suc, ◌+◌, ◌*◌, arith, Bool, true, false, cond, ◌&&◌, if◌then◌else◌, List, [], ◌∷◌, ◌++◌, map, length, Option, Some, None, slice_get, add_assoc, mul-le-mul_left}
+use Rattle.std.proofs.lemmas.Bool.{false≢true}
+use Rattle.sdg_base.specs.declared.val.Val.{Val}
+use Rattle.sdg_base.specs.declared.val.Val.TheVariants as val
+use Rattle.sdg_base.specs.declared.value_type.ValueType.TheVariants as type
+use Rattle.sdg_base.specs.Types as values
+use Rattle.state_classes.specs.States.{State}
+use Rattle.flat_code.specs.declared.graph.Instr.{Instr}
+use Rattle.flat_code.specs.declared.graph.Instr.TheVariants as instr
+use Rattle.flat_code.specs.Machine.{Setting, Frame, Goes, perform_on, pushed_result, run_within, Ending}
+use Rattle.access_blocks.specs.declared.body.Expression.{Expression}
+use Rattle.access_blocks.specs.declared.halt.Halt.{Halt}
+use Rattle.access_blocks.specs.declared.halt.Halt.TheVariants.{OutOfTurns}
+use Rattle.access_blocks.specs.Expressions.{Ended, Gives, Ends, is_true, value_of}
+use Rattle.access_blocks.specs.Statements.{Machine, Completion, Normal, Breaks, Continues, Returns, Halts, Completed, completed, normal, seen_by, with_turns, with_value, spending, spent, Running, going_on, after, tested, looping, after_body, passes, looped}
+use Rattle.body_code.specs.Typing.{Context, type_of}
+use Rattle.body_code.specs.Codes.{nothing}
+use Rattle.body_code.specs.ExpressionCode.{code_of}
+use Rattle.body_code.specs.StatementCode.{Place, Exits, Piece, behind_piece, of_code, of_instructions, then_piece, in_order, next_pass}
+use Rattle.body_code.specs.StatementCode as code
+use Rattle.body_code.specs.Checking.{Standing, Around, Checking, is_condition}
+use Rattle.code_meaning.specs.Laid.{IsSizedPiece, IsLaid, frame, Leads, EndsSo, Stops}
+use Rattle.code_meaning.specs.Evaluating.{Evaluates}
+use Rattle.code_meaning.specs.Running.{Ground, IsGround, FieldsAgree, Agrees, GoesTo, Leaves, EndsWith, StopsBy, Completes}
+use Rattle.code_meaning.proofs.Lists.{none_some, some_is}
+use Rattle.code_meaning.proofs.Running.{laid_two, one_step, one_turn, one_stop, stays, leads_on, ends_on, stops_on, wider, leads_to, stops_wider}
+use Rattle.code_meaning.proofs.Evaluations.{boolean_cases}
+use Rattle.code_meaning.proofs.Sizes.{code_sized}
+use Rattle.code_meaning.proofs.Operands.{on_stack}
+use Rattle.code_meaning.proofs.Agreeing.{Below, agrees_below, agrees_fewer}
+use Rattle.code_meaning.proofs.Completing.{completes_on, completes_wider}
+use Rattle.code_meaning.proofs.PieceSizes.{tested_sized, way_back, updated, bodied, turned, then_sized, back_sized}
+use Rattle.code_meaning.proofs.Simple.{Does, evaluates_taken}
+
+-- ---- a pass, after which a turn is spent
+
+-- a run that has spent a turn, through code of so many instructions
+pub record Rounds (s : Setting) (code : List Instr) (size : ℕ) (f : Frame) (state : State) (g : Frame) (next : State) : Type 0 where
+  pub steps : ℕ
+  pub same : (n : ℕ) → run_within (steps + n) s code f state ≡ run_within n s code g next
+  pub falls : g.turns < f.turns
+  pub few : steps + size * suc g.turns ≤ size * suc f.turns
+
+few_of_turn : (a b s1 s2 t0 t1 t2 : ℕ) → s1 + a * suc t1 ≤ a * suc t0 → s2 + b * t2 ≤ b * suc t1 → t2 ≤ t1 → suc t1 ≤ t0
+    → (s1 + 1 + s2) + (a + (1 + b)) * suc t2 ≤ (a + (1 + b)) * suc t0
+few_of_turn a b s1 s2 t0 t1 t2 h1 h2 l2 l1 =
+    let k2 : suc t2 ≤ suc t1 = omega arith in
+    omega (arith, mul-le-mul_left a k2, mul-le-mul_left b l1)
+
+few_round_then : (n s1 s2 t0 t1 t2 : ℕ) → s1 + n * suc t1 ≤ n * suc t0 → s2 + n * t2 ≤ n * suc t1 → s1 + s2 + n * t2 ≤ n * suc t0
+few_round_then n s1 s2 t0 t1 t2 h1 h2 = omega arith
+
+module _ (s : Setting) (code : List Instr) where
+  -- a test, a turn and the rest of a pass
+  pub rounds : {a b : ℕ} {f k : Frame} {x y : State} {at : ℕ} {stack variables : List Val} {left : ℕ} → Leads s code a f x (frame at stack variables (suc left)) x → slice_get code at ≡ Some instr.Turn
+      → Leads s code b (frame (at + 1) stack variables left) x k y → Rounds s code (a + (1 + b)) f x k y
+  rounds {a} {b} {f} {k = k} {x} {y} {at} {stack} {variables} {left} p is q =
+      record {
+        steps = p.steps + 1 + q.steps;
+        same = λ n. ap (λ z. run_within z s code f x) (add_assoc (p.steps + 1) q.steps n ∙ add_assoc p.steps 1 (q.steps + n)) ∙ p.same (1 + (q.steps + n)) ∙ one_turn s code at left stack variables x is (q.steps + n) ∙ q.same n;
+        falls = omega (arith, p.falls, q.falls);
+        few = few_of_turn a b p.steps q.steps f.turns left k.turns p.few q.few q.falls p.falls;
+      }
+
+  pub round_then : {n : ℕ} {f h k : Frame} {x y z : State} → Rounds s code n f x h y → Leads s code n h y k z → Leads s code n f x k z
+  round_then {n} {f} {h} {k} {x} {y} {z} p q = record {
+    steps = p.steps + q.steps;
+    same = λ m. ap (λ j. run_within j s code f x) (add_assoc p.steps q.steps m) ∙ p.same (q.steps + m) ∙ q.same m;
+    falls = omega (arith, p.falls, q.falls);
+    few = few_round_then n p.steps q.steps f.turns h.turns k.turns p.few q.few;
+  }
+
+  pub round_ends : {n : ℕ} {f h k : Frame} {x y z : State} {ending : Ending} → Rounds s code n f x h y → EndsSo s code n h y ending k z → EndsSo s code n f x ending k z
+  round_ends {n} {f} {h} {k} {x} {y} {z} p q = record {
+    steps = p.steps + q.steps;
+    same = λ m. ap (λ j. run_within j s code f x) (add_assoc p.steps q.steps m) ∙ p.same (q.steps + m) ∙ q.same m;
+    few = let a = p.few in let b = q.few in omega arith;
+  }
+
+module _ {g : Ground} where
+  round_goes : {n to : ℕ} {f h : Frame} {a b : State} {need : Standing} {m : Machine} → Rounds g.setting g.code n f a h b → GoesTo g n h b to need m → GoesTo g n f a to need m
+  round_goes p q = record { variables = q.variables; next = q.next; leads = round_then g.setting g.code p q.leads; agrees = q.agrees }
+
+  round_completing : {n to : ℕ} {f h : Frame} {a b : State} {loop : Around} {exits : Exits} {end : Standing} (m : Machine) (c : Completion) → Rounds g.setting g.code n f a h b
+      → Completes g loop exits n h b to end (completed c m) → Completes g loop exits n f a to end (completed c m)
+  round_completing m Normal p q = record { does = round_goes p q.does }
+  round_completing m Breaks p q = record { does = record { need = q.does.need; in_loop = q.does.in_loop; goes = round_goes p q.does.goes } }
+  round_completing m Continues p q = record { does = record { need = q.does.need; in_loop = q.does.in_loop; goes = round_goes p q.does.goes } }
+  round_completing m (Returns v) p q = record { does = record { last = q.does.last; next = q.does.next; ends = round_ends g.setting g.code p q.does.ends; turns = q.does.turns; falls = (let k = q.does.falls in let l = p.falls in omega arith); fields = q.does.fields; of_result = q.does.of_result } }
+  round_completing m (Halts h) p q = record { does = record { next = q.does.next; stops = record { last = q.does.stops.last; ends = round_ends g.setting g.code p q.does.stops.ends }; fields = q.does.fields } }
+
+  pub round_completes : {n to : ℕ} {f h : Frame} {a b : State} {loop : Around} {exits : Exits} {end : Standing} {c : Completed} → Rounds g.setting g.code n f a h b
+      → Completes g loop exits n h b to end c → Completes g loop exits n f a to end c
+  round_completes {c = c} p q = round_completing c.machine c.completion p q
+
+  -- ---- no loop around a start or an update
+
+  pub not_broken : {n to : ℕ} {f : Frame} {a : State} {loop : Around} {exits outer : Exits} {end : Standing} (m : Machine) (c : Completion)
+      → Completes g None exits n f a to end (completed c m) → Completes g loop outer n f a to end (completed c m)
+  not_broken m Normal q = record { does = q.does }
+  not_broken m Breaks q = absurd (none_some q.does.need q.does.in_loop)
+  not_broken m Continues q = absurd (none_some q.does.need q.does.in_loop)
+  not_broken m (Returns v) q = record { does = q.does }
+  not_broken m (Halts h) q = record { does = q.does }
+
+  -- ---- the test of a loop
+
+  pub tested_goes : (ground : IsGround g) {variables : List Val} {state : State} {m : Machine} {loop : Around} {exits : Exits} {n to : ℕ} {st end : Standing} (test : Option Expression) (k : Val → Machine → Completed) (p : Place) (inner : Exits)
+      → (code.tested g.around.context test).size ≤ n → is_condition g.around st test ≡ true → IsLaid g.code p.at ((code.tested g.around.context test).from p inner) → Agrees g st variables state m
+      → ((left : ℕ) → left ≤ m.turns → Leads g.setting g.code (code.tested g.around.context test).size (frame p.at [] variables m.turns) state (frame (p.at + (code.tested g.around.context test).size) [] variables left) state
+      → Completes g loop exits n (frame p.at [] variables m.turns) state to end (k (val.Bool true) (with_turns left m)))
+      → ((left : ℕ) → left ≤ m.turns → Leads g.setting g.code (code.tested g.around.context test).size (frame p.at [] variables m.turns) state (frame inner.break_to [] variables left) state
+      → Completes g loop exits n (frame p.at [] variables m.turns) state to end (k (val.Bool false) (with_turns left m)))
+      → Completes g loop exits n (frame p.at [] variables m.turns) state to end (tested g.calls test m k)
+  tested_goes ground {m = m} None k p inner room holds laid h holding failing = let e : p.at ≡ p.at + 0 = omega arith in holding m.turns (omega arith) (leads_to g.setting g.code e (stays g.setting g.code))
+  tested_goes ground {variables} {state} {m} {loop} {exits} {n} {to} {st} {end} (Some x) k p inner room holds laid h holding failing = by (value_of g.calls x (seen_by m) m.turns) (evaluates_taken ground h x type.Boolean p.at [] holds parts.0)
+    where
+      a : ℕ
+      a = (code_of g.around.context x).size
+      parts : IsLaid g.code p.at ((code_of g.around.context x).from p.at) × IsLaid g.code (p.at + (code_of g.around.context x).size) (instr.IfFalse inner.break_to ∷ [])
+      parts = laid_two g.code p.at (code_of g.around.context x).size ((code_of g.around.context x).from p.at) (instr.IfFalse inner.break_to ∷ []) (code_sized g.around.context x p.at) laid
+      holds_goes : (b : Bool) (left : ℕ) → left ≤ m.turns → Leads g.setting g.code (code_of g.around.context x).size (frame p.at [] variables m.turns) state (frame (p.at + (code_of g.around.context x).size) (val.Bool b ∷ []) variables left) state
+          → Completes g loop exits n (frame p.at [] variables m.turns) state to end (k (val.Bool b) (with_turns left m))
+      holds_goes true left less q =
+          let e : suc (p.at + (code_of g.around.context x).size) ≡ p.at + ((code_of g.around.context x).size + 1) = omega arith in
+          holding left less (leads_on g.setting g.code q (leads_to g.setting g.code e (one_step g.setting g.code (instr.IfFalse inner.break_to) parts.1.0 refl (omega arith))))
+      holds_goes false left less q = failing left less (leads_on g.setting g.code q (one_step g.setting g.code (instr.IfFalse inner.break_to) parts.1.0 refl (omega arith)))
+      by : (v : Ended Val) → Evaluates g.setting g.code (code_of g.around.context x).size (frame p.at [] variables m.turns) state (p.at + (code_of g.around.context x).size) [] variables type.Boolean v
+          → Completes g loop exits n (frame p.at [] variables m.turns) state to end (with_value v m k)
+      by (Gives v left) q =
+          (boolean_cases (λ v. Leads g.setting g.code (code_of g.around.context x).size (frame p.at [] variables m.turns) state (frame (p.at + (code_of g.around.context x).size) (v ∷ []) variables left) state
+          → Completes g loop exits n (frame p.at [] variables m.turns) state to end (k v (with_turns left m))) v q.does.0 (λ b. holds_goes b left q.does.1.falls))
+          (subst (λ stack. Leads g.setting g.code (code_of g.around.context x).size (frame p.at [] variables m.turns) state (frame (p.at + (code_of g.around.context x).size) stack variables left) state) (on_stack type.Boolean v [] tt q.does.0) q.does.1)
+      by (Ends z) q = record { does = record { next = state; stops = stops_wider g.setting g.code (omega arith) q.does; fields = h.fields } }
