@@ -25,7 +25,7 @@ Grows a b = (v : ℕ) → is_in v a.known ≡ true → is_in v b.known ≡ true
 abbrev pub GrowsTo : Standing → Option Standing → Type 0
 GrowsTo a o = (b : Standing) → o ≡ Some b → Grows a b
 
-abbrev AllGrow : Checking → Type 0
+abbrev pub AllGrow : Checking → Type 0
 AllGrow check = (loop : Around) (st : Standing) → GrowsTo st (check loop st)
 
 same_grow : (a b : Standing) → a.known ≡ b.known → Grows a b
@@ -80,7 +80,7 @@ pub next_is : (f : Standing → Option Standing) (o : Option Standing) (b : Stan
 next_is f None b is = absurd (none_some b is)
 next_is f (Some a) b is = (a, refl, is)
 
-next_grows : (f : Standing → Option Standing) (a : Standing) (o : Option Standing) → GrowsTo a o → ((c : Standing) → GrowsTo c (f c)) → GrowsTo a (next f o)
+pub next_grows : (f : Standing → Option Standing) (a : Standing) (o : Option Standing) → GrowsTo a o → ((c : Standing) → GrowsTo c (f c)) → GrowsTo a (next f o)
 next_grows f a o h each b is = let k = next_is f o b is in λ v known. each k.0 b k.2 v (h k.0 k.1 v known)
 
 opened_grows : (st : Standing) (o : Option Standing) → GrowsTo st o → GrowsTo st (opened st o)

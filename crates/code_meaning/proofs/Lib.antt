@@ -13,3 +13,4 @@ mod PieceSizes
 mod Growing
 mod Simple
 mod Loops
+mod Plain

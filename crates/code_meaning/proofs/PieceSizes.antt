@@ -31,7 +31,7 @@ then_sized a b ha hb p exits =
     let z = hb (behind_piece p a) exits in
     omega arith
 
-guarded_sized : (over : ℕ) (a : Piece) → IsSizedPiece a → IsSizedPiece (guarded over a)
+pub guarded_sized : (over : ℕ) (a : Piece) → IsSizedPiece a → IsSizedPiece (guarded over a)
 guarded_sized over a ha p exits = let y = ha (moved 1 p) exits in omega arith
 
 jumped_sized : (a : Piece) → IsSizedPiece a → IsSizedPiece (jumped_over a)
