@@ -179,3 +179,97 @@ module _ {g : Ground} (ground : IsGround g) where
       subst (λ z. Completes g loop exits whole.size (frame (p.at + (in_order starts).size) [] ws n.turns) b (p.at + (in_order starts).size + whole.size) z (looped g.calls test ru rb n)) l.3
       (completes_below (compound_below st k.0 (grows st k.0 k.1))
       (passes_go ground test us body (checking.in_order cu) cb ru rb none hu hb db du k.0 l.0 (l.1.0) (l.1.1) (l.1.2) (l.2.0) (l.2.1) (l.2.2) (behind_piece p (in_order starts)) loop exits parts.1 (suc n.turns) ws b n less h'))))
+
+  pub compound_does : (check : Checking) (a : Piece) (run : Running) → AllGrow check → Does ground check a run → Does ground (λ loop st. compound st (check loop st)) a run
+  compound_does check a run grows does loop st end p exits is laid variables state m h =
+      let k = compound_is st (check loop st) end is in
+      subst (λ z. Completes g loop exits a.size (frame p.at [] variables m.turns) state (p.at + a.size) z (run m)) k.2
+      (completes_below (compound_below st k.0 (grows loop st k.0 k.1)) (does loop st k.0 p exits k.1 laid variables state m h))
+
+  -- ---- all statements without marks
+
+  abbrev IsRight : Statement → Type 0
+  IsRight x = is_plain x ≡ true → Does ground (checked g.around x) (piece_of (scope_on g) x) (meaning g.calls x)
+
+  abbrev Part : Type 0
+  Part = (x : Statement) × IsRight x
+
+  abbrev bare : Statement-F Part → Statement-F Statement
+  bare = map-Statement Part Statement (λ x. x.0)
+
+  abbrev plains : Statement-F Statement → Statement-F Bool
+  plains = map-Statement Statement Bool is_plain
+
+  abbrev checks : Statement-F Statement → Statement-F Checking
+  checks = map-Statement Statement Checking (checked g.around)
+
+  abbrev pieces : Statement-F Statement → Statement-F Piece
+  pieces = map-Statement Statement Piece (piece_of (scope_on g))
+
+  abbrev meant : Statement-F Statement → Statement-F Running
+  meant = map-Statement Statement Running (meaning g.calls)
+
+  abbrev LayerRight : Statement-F Statement → Type 0
+  LayerRight y = plain_step (plains y) ≡ true → Does ground (checked_step g.around (checks y)) (piece_step (scope_on g) (pieces y)) (statement_step g.calls (meant y))
+
+  list_right : (xs : List Part) → all_plain (map is_plain (map (λ (x : Part). x.0) xs)) ≡ true
+      → Does ground (checked_list g.around (map (λ (x : Part). x.0) xs)) (pieces_of (scope_on g) (map (λ (x : Part). x.0) xs)) (meanings g.calls (map (λ (x : Part). x.0) xs))
+  list_right [] is = nothing_does
+  list_right (x ∷ xs) is =
+      let k = both_true (is_plain x.0) (all_plain (map is_plain (map (λ (y : Part). y.0) xs))) is in
+      then_does (checked g.around x.0) (checked_list g.around (map (λ (y : Part). y.0) xs)) (piece_of (scope_on g) x.0) (pieces_of (scope_on g) (map (λ (y : Part). y.0) xs)) (meaning g.calls x.0) (meanings g.calls (map (λ (y : Part). y.0) xs))
+      (piece_sized (scope_on g) x.0) (x.1 k.0) (list_right xs k.1)
+
+  none_of : (xs : List Part) → (map (piece_of (scope_on g)) (map (λ (x : Part). x.0) xs) ≡ []) → (m : Machine) → meanings g.calls (map (λ (x : Part). x.0) xs) m ≡ normal m
+  none_of [] is m = refl
+  none_of (x ∷ xs) is m = absurd (cc)
+
+  layer_right : (y : Statement-F Part) → LayerRight (bare y)
+  layer_right (s.Assign v x) plain = assign_does ground v x
+  layer_right (s.SetElement v at x) plain = set_element_does ground v at x
+  layer_right (s.Evaluate x) plain = evaluate_does ground x
+  layer_right (s.Access a) plain = access_does ground a
+  layer_right (s.Gather a) plain = absurd (false≢true plain)
+  layer_right (s.Marked mark body) plain = absurd (false≢true plain)
+  layer_right (s.Opened body) plain = absurd (false≢true plain)
+  layer_right (s.Block items) plain =
+      compound_does (checked_list g.around (map (λ (x : Part). x.0) items)) (pieces_of (scope_on g) (map (λ (x : Part). x.0) items)) (meanings g.calls (map (λ (x : Part). x.0) items)) (list_checked_grows g.around (map (λ (x : Part). x.0) items)) (list_right items plain)
+  layer_right (s.If test first None) plain =
+      let k = both_true (is_plain first.0) true plain in
+      if_alone_does test (checked g.around first.0) (piece_of (scope_on g) first.0) (meaning g.calls first.0) (checked_grows g.around first.0) (first.1 k.0)
+  layer_right (s.If test first (Some second)) plain =
+      let k = both_true (is_plain first.0) (is_plain second.0) plain in
+      if_else_does test (checked g.around first.0) (checked g.around second.0) (piece_of (scope_on g) first.0) (piece_of (scope_on g) second.0) (meaning g.calls first.0) (meaning g.calls second.0)
+      (piece_sized (scope_on g) first.0) (checked_grows g.around first.0) (checked_grows g.around second.0) (first.1 k.0) (second.1 k.1)
+  layer_right (s.Loop start test update body) plain =
+      let k = both_true (all_plain (map is_plain (map (λ (x : Part). x.0) start))) (is_plain body.0 && all_plain (map is_plain (map (λ (x : Part). x.0) update))) plain in
+      let l = both_true (is_plain body.0) (all_plain (map is_plain (map (λ (x : Part). x.0) update))) k.1 in
+      loop_does test (map (piece_of (scope_on g)) (map (λ (x : Part). x.0) start)) (map (piece_of (scope_on g)) (map (λ (x : Part). x.0) update)) (piece_of (scope_on g) body.0)
+      (checked_list g.around (map (λ (x : Part). x.0) start)) (map (checked g.around) (map (λ (x : Part). x.0) update)) (checked g.around body.0)
+      (meanings g.calls (map (λ (x : Part). x.0) start)) (meanings g.calls (map (λ (x : Part). x.0) update)) (meaning g.calls body.0) (none_of update)
+      (pieces_sized (scope_on g) (map (λ (x : Part). x.0) start)) (pieces_sized (scope_on g) (map (λ (x : Part). x.0) update)) (piece_sized (scope_on g) body.0)
+      (λ st end is. list_checked_grows g.around (map (λ (x : Part). x.0) start) None st end is) (list_right start k.0) (list_right update l.1) (body.1 l.0)
+  layer_right s.Break plain = break_does ground
+  layer_right s.Continue plain = continue_does ground
+  layer_right (s.Return x) plain = return_does ground x
+
+  made_right : (x : Statement-F Statement) (y : Statement-F Part) → bare y ≡ x → IsRight (roll-Statement x)
+  made_right x y is =
+      let b = fold-roll-Statement Bool plain_step x in
+      let c = fold-roll-Statement Checking (checked_step g.around) x in
+      let a = fold-roll-Statement Piece (piece_step (scope_on g)) x in
+      let r = fold-roll-Statement Running (statement_step g.calls) x in
+      let whole : IsRight (roll-Statement x) ≡ LayerRight x = λ i. b i ≡ true → Does ground (c i) (a i) (r i) in
+      transport (sym whole) (subst LayerRight is (layer_right y))
+
+  pub statement_right : (x : Statement) → IsRight x
+  statement_right = ind-Statement IsRight made_right
+
+  pub statements_right : (xs : List Statement) → all_plain (map is_plain xs) ≡ true → Does ground (checked_list g.around xs) (pieces_of (scope_on g) xs) (meanings g.calls xs)
+  statements_right [] is = nothing_does
+  statements_right (x ∷ xs) is =
+      let k = both_true (is_plain x) (all_plain (map is_plain xs)) is in
+      then_does (checked g.around x) (checked_list g.around xs) (piece_of (scope_on g) x) (pieces_of (scope_on g) xs) (meaning g.calls x) (meanings g.calls xs) (piece_sized (scope_on g) x) (statement_right x k.0) (statements_right xs k.1)
+
+pub plain_statements_do_what_they_mean : PlainStatementsDoWhatTheyMean
+plain_statements_do_what_they_mean g ground x plain loop st end p exits is laid variables state m h = statement_right ground x plain loop st end p exits is laid variables state m h

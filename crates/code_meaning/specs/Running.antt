@@ -21,7 +21,7 @@ use Rattle.access_blocks.specs.Statements.{Field, Machine, Completion, Normal, B
 use Rattle.body_code.specs.Early.{is_in}
 use Rattle.body_code.specs.StatementCode.{Place, Exits, Scope, piece_of}
 use Rattle.body_code.specs.Checking.{Surroundings, Standing, Around, has_key, checked}
-use Rattle.code_meaning.specs.Laid.{IsLaid, frame, Leads, EndsSo, Stops}
+use Rattle.code_meaning.specs.Laid.{IsSizedPiece, IsLaid, frame, Leads, EndsSo, Stops}
 use Rattle.code_meaning.specs.Evaluating.{AreOf, HasSame, CallsAgree, HasKey, GathersSame}
 
 -- ---- what a run stands on
@@ -153,6 +153,9 @@ plain_step _ = true
 -- no block begins in it
 abbrev pub is_plain : Statement → Bool
 is_plain = fold-Statement Bool plain_step
+
+abbrev pub StatementsAreAsLong : Type 0
+StatementsAreAsLong = (scope : Scope) (x : Statement) → IsSizedPiece (piece_of scope x)
 
 abbrev pub PlainStatementsDoWhatTheyMean : Type 0
 PlainStatementsDoWhatTheyMean =

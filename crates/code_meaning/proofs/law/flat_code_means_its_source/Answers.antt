@@ -1,5 +1,13 @@
 use Rattle.code_meaning.proofs.Expressions.{expressions_give_their_values}
+use Rattle.code_meaning.proofs.PieceSizes.{piece_sized}
+use Rattle.code_meaning.proofs.Plain.{plain_statements_do_what_they_mean}
 use Rattle.code_meaning.proofs.law.flat_code_means_its_source.Goals as goal
 
-pub returns : goal.returns
-returns c = record { expressions = expressions_give_their_values }
+pub returns-clause-expressions : goal.returns-clause-expressions
+returns-clause-expressions c = expressions_give_their_values
+
+pub returns-clause-sizes : goal.returns-clause-sizes
+returns-clause-sizes c = piece_sized
+
+pub returns-clause-statements : goal.returns-clause-statements
+returns-clause-statements c = plain_statements_do_what_they_mean
