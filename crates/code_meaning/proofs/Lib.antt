@@ -14,3 +14,4 @@ mod Growing
 mod Simple
 mod Loops
 mod Plain
+mod Leaving
