@@ -15,3 +15,4 @@ mod Simple
 mod Loops
 mod Plain
 mod Leaving
+mod Foreseen

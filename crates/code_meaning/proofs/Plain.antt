@@ -74,7 +74,7 @@ pub ends_as_is : (need : Standing) (o : Option Standing) → ends_as need o ≡ 
 ends_as_is need None is = absurd (false≢true is)
 ends_as_is need (Some a) is = (a, refl, covers_below a need is)
 
-each_bool : (P : Bool → Type 0) → P true → P false → (b : Bool) → P b
+pub each_bool : (P : Bool → Type 0) → P true → P false → (b : Bool) → P b
 each_bool P t f true = t
 each_bool P t f false = f
 

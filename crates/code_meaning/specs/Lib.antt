@@ -1,3 +1,4 @@
 pub mod Laid
 pub mod Evaluating
 pub mod Running
+pub mod Foreseen
