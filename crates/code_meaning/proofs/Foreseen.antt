@@ -29,12 +29,23 @@ use Rattle.code_meaning.specs.Running.{all_plain, plain_step, is_plain}
 use Rattle.code_meaning.specs.Foreseen.{IsForeseen, CompletionsAreForeseen}
 use Rattle.code_meaning.proofs.Lists.{none_some, some_is, both_true}
 use Rattle.code_meaning.proofs.Growing.{next_is, if_so_is, if_then}
-use Rattle.code_meaning.proofs.Plain.{met_is, compound_is, each_bool}
+use Rattle.code_meaning.proofs.Plain.{met_is, compound_is, ends_as_is, each_bool}
 use Rattle.code_meaning.proofs.Leaving.{constant_value}
 
 opened_is : (st : Standing) (o : Option Standing) (end : Standing) → opened st o ≡ Some end → (a : Standing) × (o ≡ Some a)
 opened_is st None end is = absurd (none_some end is)
 opened_is st (Some a) end is = (a, refl)
+
+pub passing_is : (around : Surroundings) (before st end : Standing) (test : Option Expression) (cu cb : Checking)
+    → checking.if_so (checking.is_condition around st test && (checking.ends_as st (cb (Some st) st) && checking.ends_as st (cu None st))) (checking.after_compound before st) ≡ Some end
+    → ((stb : Standing) × (cb (Some st) st ≡ Some stb)) × ((stu : Standing) × (cu None st ≡ Some stu)) × (checking.after_compound before st ≡ end)
+passing_is around before st end test cu cb is =
+    let k = if_so_is (checking.is_condition around st test && (checking.ends_as st (cb (Some st) st) && checking.ends_as st (cu None st))) (checking.after_compound before st) end is in
+    let l = both_true (checking.is_condition around st test) _ k.0 in
+    let n = both_true (checking.ends_as st (cb (Some st) st)) (checking.ends_as st (cu None st)) l.1 in
+    let b = ends_as_is st (cb (Some st) st) n.0 in
+    let u = ends_as_is st (cu None st) n.1 in
+    ((b.0, b.1), (u.0, u.1), k.1)
 
 -- ---- where no loop is around, no `break` leaves
 
@@ -315,3 +326,95 @@ module _ (around : Surroundings) (calls : Calls) where
   list_right (x ∷ xs) is =
       let k = both_true (is_plain x.0) (all_plain (map is_plain (map (λ (y : Part). y.0) xs))) is in
       more_right x.0 (map (λ (y : Part). y.0) xs) (x.1 k.0) (list_right xs k.1)
+
+  layer_right : (y : Statement-F Part) → LayerRight (bare y)
+  layer_right (s.Assign v x) plain =
+      ((λ loop st end is out. assigned_keeps v (type_of around.context x) (checking.are_met around st (needs x)) st end is out),
+      (λ loop st end is out m. valued (leaving true false) (value_of calls x (seen_by m) m.turns) m (λ value n. normal (with_variable v value n)) (λ value n. refl)))
+  layer_right (s.SetElement v at x) plain =
+      ((λ loop st end is out. if_keeps _ st end is out),
+      (λ loop st end is out m. valued (leaving true false) (value_of calls at (seen_by m) m.turns) m (λ i n. evaluated calls x n (λ value o. element_set v (with_element (variable_in o v) i value) o)) (λ i n.
+      valued (leaving true false) (value_of calls x (seen_by n) n.turns) n (λ value o. element_set v (with_element (variable_in o v) i value) o) (λ value o. sets (with_element (variable_in o v) i value) v o))))
+  layer_right (s.Evaluate x) plain =
+      ((λ loop st end is out. if_keeps _ st end is out),
+      (λ loop st end is out m. valued (leaving true false) (value_of calls x (seen_by m) m.turns) m (λ value n. normal n) (λ value n. refl)))
+  layer_right (s.Access a) plain =
+      ((λ loop st end is out. absurd (no_access a (checking.signature_of around a.field a.method) st end is out)),
+      (λ loop st end is out m. absurd (no_access a (checking.signature_of around a.field a.method) st end is out)))
+  layer_right (s.Gather a) plain = absurd (false≢true plain)
+  layer_right (s.Marked mark body) plain = absurd (false≢true plain)
+  layer_right (s.Opened body) plain = absurd (false≢true plain)
+  layer_right (s.Block items) plain =
+      let xs = map (λ (x : Part). x.0) items in
+      let h = list_right items plain in
+      ((λ loop st end is out. let k = compound_is st (checked_list around xs loop st) end is in same_keeps (checking.after_compound st k.0) end k.2 (h.0 loop st k.0 k.1 out)),
+      (λ loop st end is out m. let k = compound_is st (checked_list around xs loop st) end is in h.1 loop st k.0 k.1 out m))
+  layer_right (s.If test first None) plain =
+      let h = first.1 (both_true (is_plain first.0) true plain).0 in
+      ((λ loop st end is out.
+      let l = met_is st (checked around first.0 loop st) (Some st) end (if_then (takes around st test type.Boolean) (met st (checked around first.0 loop st) (Some st)) end is).1 in
+      same_keeps (checking.meet st l.0 l.1) end l.4 (common_none (checking.same_number l.0.field l.1.field) l.0.field (h.0 loop st l.0 l.2 out))),
+      (λ loop st end is out m.
+      let l = met_is st (checked around first.0 loop st) (Some st) end (if_then (takes around st test type.Boolean) (met st (checked around first.0 loop st) (Some st)) end is).1 in
+      let both : Leaving = leaving true (leaving_of first.0).breaks in
+      valued both (value_of calls test (seen_by m) m.turns) m (λ holds n. if is_true holds then meaning calls first.0 n else normal n) (λ holds n.
+      each_bool (λ b. Foresees both (if b then meaning calls first.0 n else normal n)) (weaker (leaving_of first.0) both (meaning calls first.0 n).completion (λ z. refl) (λ z. z) (h.1 loop st l.0 l.2 out n)) refl (is_true holds))))
+  layer_right (s.If test first (Some second)) plain =
+      let k = both_true (is_plain first.0) (is_plain second.0) plain in
+      let h = first.1 k.0 in
+      let h2 = second.1 k.1 in
+      ((λ loop st end is out.
+      let l = met_is st (checked around first.0 loop st) (checked around second.0 loop st) end (if_then (takes around st test type.Boolean) (met st (checked around first.0 loop st) (checked around second.0 loop st)) end is).1 in
+      same_keeps (checking.meet st l.0 l.1) end l.4 (common_none (checking.same_number l.0.field l.1.field) l.0.field (h.0 loop st l.0 l.2 out))),
+      (λ loop st end is out m.
+      let l = met_is st (checked around first.0 loop st) (checked around second.0 loop st) end (if_then (takes around st test type.Boolean) (met st (checked around first.0 loop st) (checked around second.0 loop st)) end is).1 in
+      let both : Leaving = of_second (leaving_of first.0) (Some (leaving_of second.0)) in
+      valued both (value_of calls test (seen_by m) m.turns) m (λ holds n. if is_true holds then meaning calls first.0 n else meaning calls second.0 n) (λ holds n.
+      each_bool (λ b. Foresees both (if b then meaning calls first.0 n else meaning calls second.0 n))
+      (weaker (leaving_of first.0) both (meaning calls first.0 n).completion (or_first (leaving_of first.0).completes (leaving_of second.0).completes) (or_first (leaving_of first.0).breaks (leaving_of second.0).breaks) (h.1 loop st l.0 l.2 out n))
+      (weaker (leaving_of second.0) both (meaning calls second.0 n).completion (or_second (leaving_of first.0).completes (leaving_of second.0).completes) (or_second (leaving_of first.0).breaks (leaving_of second.0).breaks) (h2.1 loop st l.1 l.3 out n)) (is_true holds))))
+  layer_right (s.Loop start test update body) plain =
+      let ss = map (λ (x : Part). x.0) start in
+      let us = map (λ (x : Part). x.0) update in
+      let k = both_true (all_plain (map is_plain ss)) (is_plain body.0 && all_plain (map is_plain us)) plain in
+      let l = both_true (is_plain body.0) (all_plain (map is_plain us)) k.1 in
+      let hs = list_right start k.0 in
+      let hu = list_right update l.1 in
+      let hb = body.1 l.0 in
+      ((λ loop st end is out.
+      let n = next_is (checking.passing around st test (map (checked around) us) (checked around body.0)) (checked_list around ss None st) end is in
+      let q = passing_is around st n.0 end test (checked_list around us) (checked around body.0) n.2 in
+      same_keeps (checking.after_compound st n.0) end q.2 (hs.0 None st n.0 n.1 out)),
+      (λ loop st end is out m.
+      let n = next_is (checking.passing around st test (map (checked around) us) (checked around body.0)) (checked_list around ss None st) end is in
+      let q = passing_is around st n.0 end test (checked_list around us) (checked around body.0) n.2 in
+      let inside = hs.0 None st n.0 n.1 out in
+      let whole : Leaving = leaving (not (goes_on test) || (leaving_of body.0).breaks) false in
+      after_one (of_list (map leaving_of ss)) whole whole (meanings calls ss m) (looped calls test (meanings calls us) (meaning calls body.0)) (hs.1 None st n.0 n.1 out m)
+      (λ z. absurd (false≢true (sym (list_unbroken around ss st n.0 n.1) ∙ z)))
+      (λ o. passes_fit test (leaving_of body.0) (meanings calls us) (meaning calls body.0) (of_list (map leaving_of us)) (list_unbroken around us n.0 q.1.0 q.1.1)
+      (λ r. hu.1 None n.0 q.1.0 q.1.1 inside r) (λ r. hb.1 (Some n.0) n.0 q.0.0 q.0.1 inside r) (suc o.turns) o)))
+  layer_right s.Break plain = ((λ loop st end is out. jumping_keeps loop st end is out), (λ loop st end is out m. refl))
+  layer_right s.Continue plain = ((λ loop st end is out. jumping_keeps loop st end is out), (λ loop st end is out m. tt))
+  layer_right (s.Return x) plain = ((λ loop st end is out. returning_keeps x st end is out), (λ loop st end is out m. returns_fit x m))
+
+  made_right : (x : Statement-F Statement) (y : Statement-F Part) → bare y ≡ x → IsRight (roll-Statement x)
+  made_right x y is =
+      let b = fold-roll-Statement Bool plain_step x in
+      let c = fold-roll-Statement Checking (checked_step around) x in
+      let l = fold-roll-Statement Leaving leaving_step x in
+      let r = fold-roll-Statement Running (statement_step calls) x in
+      let whole : IsRight (roll-Statement x) ≡ LayerRight x = λ i. b i ≡ true → Keeps (c i) × Fits (c i) (l i) (r i) in
+      transport (sym whole) (subst LayerRight is (layer_right y))
+
+  pub statement_foreseen : (x : Statement) → IsRight x
+  statement_foreseen = ind-Statement IsRight made_right
+
+  pub list_foreseen : (xs : List Statement) → all_plain (map is_plain xs) ≡ true → ListRight xs
+  list_foreseen [] is = no_more
+  list_foreseen (x ∷ xs) is =
+      let k = both_true (is_plain x) (all_plain (map is_plain xs)) is in
+      more_right x xs (statement_foreseen x k.0) (list_foreseen xs k.1)
+
+pub completions_are_foreseen : CompletionsAreForeseen
+completions_are_foreseen around calls x plain loop st end is out m = (statement_foreseen around calls x plain).1 loop st end is out m

@@ -16,3 +16,4 @@ mod Loops
 mod Plain
 mod Leaving
 mod Foreseen
+mod Starting

@@ -1,4 +1,5 @@
 use Rattle.code_meaning.proofs.Expressions.{expressions_give_their_values}
+use Rattle.code_meaning.proofs.Foreseen.{completions_are_foreseen}
 use Rattle.code_meaning.proofs.PieceSizes.{piece_sized}
 use Rattle.code_meaning.proofs.Plain.{plain_statements_do_what_they_mean}
 use Rattle.code_meaning.proofs.law.flat_code_means_its_source.Goals as goal
@@ -11,3 +12,6 @@ returns-clause-sizes c = piece_sized
 
 pub returns-clause-statements : goal.returns-clause-statements
 returns-clause-statements c = plain_statements_do_what_they_mean
+
+pub returns-clause-completions : goal.returns-clause-completions
+returns-clause-completions c = completions_are_foreseen
