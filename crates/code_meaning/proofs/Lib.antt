@@ -17,3 +17,4 @@ mod Plain
 mod Leaving
 mod Foreseen
 mod Starting
+mod Calling

@@ -180,7 +180,7 @@ one_there : (variables : List VariableType) (v : ℕ) (o : Option VariableType) 
 one_there variables v None t is e = absurd (none_some t e)
 one_there variables v (Some k) t is e = (k, is, some_is (type_by k) t e)
 
-in_there : (members : Option ValueType) (variables : List VariableType) (v : ℕ) (t : ValueType) → variable_type_in members variables v ≡ Some t → (k : VariableType) × (slice_get variables v ≡ Some k) × (type_by k ≡ t)
+pub in_there : (members : Option ValueType) (variables : List VariableType) (v : ℕ) (t : ValueType) → variable_type_in members variables v ≡ Some t → (k : VariableType) × (slice_get variables v ≡ Some k) × (type_by k ≡ t)
 in_there None variables v t is = one_there variables v (slice_get variables v) t refl is
 in_there (Some m) variables zero t is = absurd (none_some t is)
 in_there (Some m) variables (suc v) t is = one_there variables (suc v) (slice_get variables (suc v)) t refl is

@@ -2,3 +2,4 @@ pub mod Laid
 pub mod Evaluating
 pub mod Running
 pub mod Foreseen
+pub mod Calling
