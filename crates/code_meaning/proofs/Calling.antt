@@ -31,7 +31,8 @@ use Rattle.access_blocks.specs.Calls as source
 use Rattle.access_blocks.specs.Calls.{start_value, variables_at_start, machine_at_start, result_of, ran}
 use Rattle.body_code.specs.declared.callee.Callee.{Callee}
 use Rattle.body_code.specs.Typing.{Context, type_by, variable_type}
-use Rattle.body_code.specs.Completing.{body_completes}
+use Rattle.body_code.specs.Completing.{body_completes, completing, breaking, leaving, leaving_of}
+use Rattle.code_meaning.specs.Foreseen.{IsForeseen}
 use Rattle.body_code.specs.Early.{is_in, early, early_after, all_of, assigned_in}
 use Rattle.body_code.specs.ClassCode as code
 use Rattle.flat_code.specs.declared.graph.VariableType.TheVariants.{One}
@@ -42,7 +43,7 @@ use Rattle.code_meaning.specs.Evaluating.{IsValue, AreOf, HasSame, CallAgrees, H
 use Rattle.code_meaning.specs.Running.{Ground, IsGround, FieldsAgree, Agrees, Completes, all_plain, is_plain}
 use Rattle.code_meaning.specs.Calling.{OnlyEntriesHaveBlocks, CallsMeanTheirCode}
 use Rattle.code_meaning.proofs.Lists.{none_some, some_is, get_within, within_get}
-use Rattle.code_meaning.proofs.Running.{laid_parts, more_fuel, one_end, leads_on, ends_on, stops_on, ends_wider, stops_wider}
+use Rattle.code_meaning.proofs.Running.{laid_parts, more_fuel, one_end, leads_on, leads_to, ends_on, stops_on, ends_wider, stops_wider}
 use Rattle.code_meaning.proofs.Operands.{variable_value}
 use Rattle.code_meaning.proofs.PieceSizes.{pieces_sized}
 use Rattle.code_meaning.proofs.Plain.{statements_right}
@@ -271,3 +272,82 @@ module _ (holders : List Holder) (methods : List Callee) (graph : List GraphFiel
     at_site = λ f is. absurd (none_some f is);
     fields = record { same_fields = refl; same_instance = refl; of_class = λ f h is. absurd (none_some f is) };
   }
+
+  -- ---- its end
+
+  abbrev piece_size : ℕ
+  piece_size = (body_piece graph methods b).size
+
+  pieces_length : length pieces ≡ piece_size
+  pieces_length = pieces_sized (code.scope_of graph methods b) b.statements (body_place b task) no_exits
+
+  start_leads : Leads g.setting gm.code (length (started b)) (frame 0 [] before turns) no_state (frame (length (started b)) [] set.variables turns) no_state
+  start_leads = let e : 0 + length (started b) ≡ length (started b) = omega arith in leads_to g.setting gm.code e set.leads
+
+  laid_pieces : IsLaid gm.code (length (started b)) pieces
+  laid_pieces = let e : 0 + length (started b) ≡ length (started b) = omega arith in subst (λ k. IsLaid gm.code k pieces) e both.1
+
+  completes : Completes g None no_exits piece_size (frame (length (started b)) [] set.variables turns) no_state (length (started b) + piece_size) typed.after (meanings calls b.statements begun)
+  completes = statements_right ground b.statements plain None (at_start b) typed.after (body_place b task) no_exits typed.checked laid_pieces set.variables no_state begun agrees
+
+  abbrev whole : ℕ
+  whole = length (started b) + (piece_size + 1)
+
+  enough : whole ≤ suc (length gm.code)
+  enough =
+      let x = length-append (started b ++ pieces) (ending (body_completes b.statements) (started b ++ pieces)) in
+      let y = length-append (started b) pieces in
+      let z = pieces_length in
+      omega arith
+
+  abbrev result : Option Called
+  result = given_by (run g.setting gm.code (first_frame gm args turns) no_state)
+
+  runs : {how : Ending} {last : Frame} {next : State} → EndsSo g.setting gm.code whole (frame 0 [] before turns) no_state how last next → result ≡ given how last
+  runs {how} {last} {next} q =
+      let k : q.steps ≤ suc (length gm.code) * suc turns = (let a = mul-le-mul_right (suc turns) enough in let f = q.few in omega arith) in
+      let l : q.steps + 0 ≤ suc turns * suc (length gm.code) = subst (λ n. q.steps + 0 ≤ n) (mul_comm (suc (length gm.code)) (suc turns)) (omega arith) in
+      ap given_by (more_fuel g.setting gm.code (q.steps + 0) (suc turns * suc (length gm.code)) l (frame 0 [] before turns) no_state (record { ending = how; frame = last; state = next }) (q.same 0))
+
+  void_end : body_completes b.statements ≡ true → slice_get gm.code (length (started b) + piece_size) ≡ Some instr.ReturnVoid
+  void_end is =
+      let e : 0 + length (started b ++ pieces) ≡ length (started b) + piece_size = (let x = length-append (started b) pieces in let z = pieces_length in omega arith) in
+      let there : IsLaid gm.code (0 + length (started b ++ pieces)) (instr.ReturnVoid ∷ []) = subst (λ z. IsLaid gm.code (0 + length (started b ++ pieces)) (ending z (started b ++ pieces))) is parts.1 in
+      subst (λ k. slice_get gm.code k ≡ Some instr.ReturnVoid) e there.0
+
+  gives : (n : Machine) (c : Completion) → Completes g None no_exits piece_size (frame (length (started b)) [] set.variables turns) no_state (length (started b) + piece_size) typed.after (completed c n)
+      → (c ≡ Normal → body_completes b.statements ≡ true) → CallAgrees (result_type m.result) turns (result_of (completed c n)) result
+  gives n Normal h may =
+      let is = may refl in
+      let e : length (started b) + piece_size + 1 ≡ whole = omega arith in
+      let q : EndsSo g.setting gm.code (length (started b) + (piece_size + 1)) (frame 0 [] before turns) no_state (Returned val.Unit) (frame (length (started b) + piece_size) [] h.does.variables n.turns) h.does.next =
+          ends_on g.setting gm.code start_leads (ends_on g.setting gm.code h.does.leads (one_end g.setting gm.code instr.ReturnVoid (void_end is) refl)) in
+      (runs q, sym (typed.returns is), h.does.leads.falls)
+  gives n Breaks h may = absurd (none_some h.does.need h.does.in_loop)
+  gives n Continues h may = absurd (none_some h.does.need h.does.in_loop)
+  gives n (Returns v) h may =
+      let q : EndsSo g.setting gm.code whole (frame 0 [] before turns) no_state (Returned v) h.does.last h.does.next = ends_wider g.setting gm.code (omega arith) (ends_on g.setting gm.code start_leads h.does.ends) in
+      (runs q ∙ ap (λ k. Some (Gave v k)) h.does.turns, h.does.of_result, h.does.falls)
+  gives n (Halts z) h may =
+      let q = stops_wider g.setting gm.code {m = whole} (omega arith) (stops_on g.setting gm.code start_leads h.does.stops) in
+      runs q.ends
+
+  pub body_gives : CallAgrees (result_type m.result) turns (result_of (meanings calls b.statements begun)) result
+  body_gives =
+      gives (meanings calls b.statements begun).machine (meanings calls b.statements begun).completion completes
+      (λ is. subst (λ z. IsForeseen (leaving (completing (map leaving_of b.statements)) (breaking (map leaving_of b.statements))) z) is ((list_foreseen (surroundings holders methods m b) calls b.statements plain).1 None (at_start b) typed.after typed.checked refl begun))
+
+-- ---- methods by number
+
+callee_at : (ms : List Method) (bs : List Body) (n : ℕ) (k : Callee) → slice_get (callees ms bs) n ≡ Some k → (m : Method) × (b : Body) × (slice_get ms n ≡ Some m) × (slice_get bs n ≡ Some b) × (callee m b ≡ k)
+callee_at [] bs n k is = absurd (none_some k is)
+callee_at (m ∷ ms) [] n k is = absurd (none_some k is)
+callee_at (m ∷ ms) (b ∷ bs) zero k is = (m, b, refl, refl, some_is (callee m b) k is)
+callee_at (m ∷ ms) (b ∷ bs) (suc n) k is = callee_at ms bs n k is
+
+graph_at : (fields : List GraphField) (cs : List Callee) (ms : List Method) (bs : List Body) (task n : ℕ) (m : Method) (b : Body) → slice_get ms n ≡ Some m → slice_get bs n ≡ Some b
+    → (t : ℕ) × (slice_get (graph_methods fields cs ms bs task) n ≡ Some (graph_method fields cs m b t))
+graph_at fields cs [] bs task n m b im ib = absurd (none_some m im)
+graph_at fields cs (x ∷ ms) [] task n m b im ib = absurd (none_some b ib)
+graph_at fields cs (x ∷ ms) (y ∷ bs) task zero m b im ib = (task, ap₂ (λ u v. Some (graph_method fields cs u v task)) (some_is x m im) (some_is y b ib))
+graph_at fields cs (x ∷ ms) (y ∷ bs) task (suc n) m b im ib = graph_at fields cs ms bs (task + tasks_of fields cs y) n m b im ib
