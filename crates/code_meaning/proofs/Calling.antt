@@ -30,14 +30,15 @@ use Rattle.access_blocks.specs.Statements.{Machine, Completion, Normal, Breaks, 
 use Rattle.access_blocks.specs.Calls as source
 use Rattle.access_blocks.specs.Calls.{start_value, variables_at_start, machine_at_start, result_of, ran}
 use Rattle.body_code.specs.declared.callee.Callee.{Callee}
-use Rattle.body_code.specs.Typing.{Context, type_by, variable_type}
+use Rattle.access_blocks.specs.Programs.{methods_in}
+use Rattle.body_code.specs.Typing.{Context, type_by, one_type, variable_type, variable_type_in}
 use Rattle.body_code.specs.Completing.{body_completes, completing, breaking, leaving, leaving_of}
 use Rattle.code_meaning.specs.Foreseen.{IsForeseen}
 use Rattle.body_code.specs.Early.{is_in, early, early_after, all_of, assigned_in}
 use Rattle.body_code.specs.ClassCode as code
 use Rattle.flat_code.specs.declared.graph.VariableType.TheVariants.{One}
 use Rattle.body_code.specs.ClassCode.{taken_types, callee, callees, result_type, first_type, members_of, context_of, set_at_start, started, body_place, no_exits, ending, ended, body_piece, body_code, variables_of, with_collection, one_of, graph_method, tasks_of, graph_methods}
-use Rattle.body_code.specs.Checking.{Standing, surroundings, at_start, known_parameters, IsTypedBody, IsTyped, checked_list}
+use Rattle.body_code.specs.Checking.{Standing, surroundings, at_start, known_parameters, IsOne, IsTypedBody, IsTyped, checked_list}
 use Rattle.code_meaning.specs.Laid.{IsLaid, frame, Leads, EndsSo, Stops}
 use Rattle.code_meaning.specs.Evaluating.{IsValue, AreOf, HasSame, CallAgrees, HelperAgrees, CallsAgree}
 use Rattle.code_meaning.specs.Running.{Ground, IsGround, FieldsAgree, Agrees, Completes, all_plain, is_plain}
@@ -351,3 +352,125 @@ graph_at fields cs [] bs task n m b im ib = absurd (none_some m im)
 graph_at fields cs (x ∷ ms) [] task n m b im ib = absurd (none_some b ib)
 graph_at fields cs (x ∷ ms) (y ∷ bs) task zero m b im ib = (task, ap₂ (λ u v. Some (graph_method fields cs u v task)) (some_is x m im) (some_is y b ib))
 graph_at fields cs (x ∷ ms) (y ∷ bs) task (suc n) m b im ib = graph_at fields cs ms bs (task + tasks_of fields cs y) n m b im ib
+
+-- ---- arguments by kind
+
+abbrev Arguments : MethodKind → ℕ → List VariableType → List Val → Type 0
+Arguments kind arity variables args =
+    (v : ℕ) → is_in v (known_parameters kind arity) ≡ true → (k : VariableType) × (x : Val) × (variable_type_in (members_of kind variables) variables v ≡ Some (type_by k)) × (slice_get args v ≡ Some x) × (values.type_of x ≡ type_by k)
+
+abbrev Members : MethodKind → List VariableType → List Val → Type 0
+Members kind variables gathered = (t : ValueType) → members_of kind variables ≡ Some t → AreOf t gathered × IsValue t
+
+helper_arguments : (kind : MethodKind) (arity : ℕ) (variables : List VariableType) (args : List Val) → kind ≡ Helper → arity ≤ length variables → map values.type_of args ≡ taken_types arity variables → Arguments kind arity variables args
+helper_arguments Helper arity variables args is room has v known =
+    let less : v < arity = (let z = range_in v 0 arity known in omega arith) in
+    let k = argument_typed arity variables args v has room less in
+    (k.0, k.1, ap one_type k.2, k.3, k.4)
+helper_arguments Entry arity variables args is room has v known = absurd (cc)
+helper_arguments Merge arity variables args is room has v known = absurd (cc)
+
+helper_members : (kind : MethodKind) (variables : List VariableType) (gathered : List Val) → kind ≡ Helper → Members kind variables gathered
+helper_members Helper variables gathered is t e = absurd (none_some t e)
+helper_members Entry variables gathered is t e = absurd (cc)
+helper_members Merge variables gathered is t e = absurd (cc)
+
+merge_arguments : (kind : MethodKind) (arity : ℕ) (variables : List VariableType) (args : List Val) → kind ≡ Merge → Arguments kind arity variables args
+merge_arguments Merge arity variables args is v known = absurd (false≢true known)
+merge_arguments Entry arity variables args is v known = absurd (cc)
+merge_arguments Helper arity variables args is v known = absurd (cc)
+
+merge_members : (kind : MethodKind) (variables : List VariableType) (gathered : List Val) (t : ValueType) → kind ≡ Merge → taken_types 1 variables ≡ t ∷ [] → AreOf t gathered → Members kind variables gathered
+merge_members Merge [] gathered t is takes are u e = absurd (none_some u e)
+merge_members Merge (v ∷ vs) gathered t is takes are u e =
+    let same : type_by v ≡ u = some_is (type_by v) u e in
+    let first : type_by v ≡ t = cc in
+    (subst (λ z. AreOf z gathered) (sym first ∙ same) are, subst IsValue same (variable_value v))
+merge_members Entry variables gathered t is takes are u e = absurd (cc)
+merge_members Helper variables gathered t is takes are u e = absurd (cc)
+
+one_argument : (kind : MethodKind) (arity : ℕ) → kind ≡ Merge → IsOne kind arity → arity ≡ 1
+one_argument Merge arity is one = one
+one_argument Entry arity is one = absurd (cc)
+one_argument Helper arity is one = absurd (cc)
+
+helper_no_entry : (kind : MethodKind) → kind ≡ Helper → kind ≢ Entry
+helper_no_entry kind is e = cc
+
+merge_no_entry : (kind : MethodKind) → kind ≡ Merge → kind ≢ Entry
+merge_no_entry kind is e = cc
+
+module _ (class : Class) (program : Program) (typed : IsTyped class program) (only : OnlyEntriesHaveBlocks program) where
+  abbrev cs : List Callee
+  cs = code.callees_of class program
+
+  abbrev fields : List GraphField
+  fields = code.fields_of class program
+
+  abbrev ms : List Method
+  ms = methods_in class.members
+
+  abbrev gms : List GraphMethod
+  gms = graph_methods fields cs ms program.methods 0
+
+  -- what a call of a body gives, with fewer turns than these
+  abbrev AllAnswer : Calls → machine.Calls → ℕ → Type 0
+  AllAnswer calls flat most =
+      (n : ℕ) (m : Method) (b : Body) → slice_get ms n ≡ Some m → slice_get program.methods n ≡ Some b → b.kind ≢ Entry → (args gathered : List Val) → length args ≡ b.arity → Arguments b.kind b.arity b.variables args
+      → Members b.kind b.variables gathered → (turns : ℕ) → turns < most → CallAgrees (result_type m.result) turns (calls n args gathered (suc turns)) (flat n args gathered turns)
+
+  agree_by : (calls : Calls) (flat : machine.Calls) (most : ℕ) → ((n : ℕ) (args gathered : List Val) → calls n args gathered zero ≡ Ends OutOfTurns) → AllAnswer calls flat most → CallsAgree cs gms calls flat most
+  agree_by calls flat most out answer = record {
+    want_a_turn = out;
+    helpers = λ n k is kind. helper n k (callee_at ms program.methods n k is) kind;
+    merges = λ n k t gathered turns is kind takes are less. merge n k t gathered turns (callee_at ms program.methods n k is) kind takes are less;
+  }
+    where
+      helper : (n : ℕ) (k : Callee) → (m : Method) × (b : Body) × (slice_get ms n ≡ Some m) × (slice_get program.methods n ≡ Some b) × (callee m b ≡ k) → k.kind ≡ Helper → HelperAgrees n k gms calls flat most
+      helper n k z kind =
+          let m = z.0 in let b = z.1 in
+          let is : b.kind ≡ Helper = ap (λ (c : Callee). c.kind) z.4 ∙ kind in
+          let t : IsTypedBody program.fields cs m b = typed.bodies n m b z.2 z.3 in
+          let there = graph_at fields cs ms program.methods 0 n m b z.2 z.3 in
+          let one : HelperAgrees n (callee m b) gms calls flat most = record {
+            method = graph_method fields cs m b there.0;
+            is_method = there.1;
+            as_many = sym (taken_length b.arity b.variables t.arity);
+            take_values = taken_values b.arity b.variables;
+            agrees = λ args turns has less. answer n m b z.2 z.3 (helper_no_entry b.kind is) args [] (sym (map_length args) ∙ ap length has ∙ taken_length b.arity b.variables t.arity) (helper_arguments b.kind b.arity b.variables args is t.arity has)
+                (helper_members b.kind b.variables [] is) turns less;
+          } in
+          subst (λ c. HelperAgrees n c gms calls flat most) z.4 one
+      merge : (n : ℕ) (k : Callee) (t : ValueType) (gathered : List Val) (turns : ℕ) → (m : Method) × (b : Body) × (slice_get ms n ≡ Some m) × (slice_get program.methods n ≡ Some b) × (callee m b ≡ k) → k.kind ≡ Merge → k.params ≡ t ∷ [] → AreOf t gathered → turns < most
+          → CallAgrees k.result turns (calls n (val.Unit ∷ []) gathered (suc turns)) (flat n (val.Unit ∷ []) gathered turns)
+      merge n k t gathered turns z kind takes are less =
+          let m = z.0 in let b = z.1 in
+          let is : b.kind ≡ Merge = ap (λ (c : Callee). c.kind) z.4 ∙ kind in
+          let ty : IsTypedBody program.fields cs m b = typed.bodies n m b z.2 z.3 in
+          let one : b.arity ≡ 1 = one_argument b.kind b.arity is ty.one in
+          let params : taken_types 1 b.variables ≡ t ∷ [] = ap (λ a. taken_types a b.variables) (sym one) ∙ ap (λ (c : Callee). c.params) z.4 ∙ takes in
+          subst (λ (c : Callee). CallAgrees c.result turns (calls n (val.Unit ∷ []) gathered (suc turns)) (flat n (val.Unit ∷ []) gathered turns)) z.4
+          (answer n m b z.2 z.3 (merge_no_entry b.kind is) (val.Unit ∷ []) gathered (sym one) (merge_arguments b.kind b.arity b.variables (val.Unit ∷ []) is) (merge_members b.kind b.variables gathered t is params are) turns less)
+
+  out_of_turns : (d n : ℕ) (args gathered : List Val) → source.calls_within d program.methods n args gathered zero ≡ Ends OutOfTurns
+  out_of_turns zero n args gathered = refl
+  out_of_turns (suc d) n args gathered = refl
+
+  within_same : (e n : ℕ) (gm : GraphMethod) (args gathered : List Val) (turns : ℕ) → slice_get gms n ≡ Some gm
+      → machine.calls_within (suc e) fields gms n args gathered turns ≡ given_by (run (in_method fields gms (machine.calls_within e fields gms) gathered) gm.code (first_frame gm args turns) no_state)
+  unfolding machine.calls_within
+  within_same e n gm args gathered turns is = ap (λ o. method_run fields gms (machine.calls_within e fields gms) o args gathered turns) is
+
+  pub calls_agree : (d e most : ℕ) → most ≤ d → most ≤ e → CallsAgree cs gms (source.calls_within d program.methods) (machine.calls_within e fields gms) most
+  calls_agree zero e most l k = agree_by _ _ most (out_of_turns zero) (λ n m b im ib no args gathered many arguments members turns less. absurd (omega arith))
+  calls_agree (suc d) zero most l k = agree_by _ _ most (out_of_turns (suc d)) (λ n m b im ib no args gathered many arguments members turns less. absurd (omega arith))
+  calls_agree (suc d) (suc e) most l k = agree_by _ _ most (out_of_turns (suc d)) (λ n m b im ib no args gathered many arguments members turns less.
+      let ld : turns ≤ d = omega arith in
+      let le : turns ≤ e = omega arith in
+      let there = graph_at fields cs ms program.methods 0 n m b im ib in
+      subst (λ x. CallAgrees (result_type m.result) turns x (machine.calls_within (suc e) fields gms n args gathered turns)) (sym (ap (λ o. ran (source.calls_within d program.methods) o args gathered turns) ib))
+      (subst (λ y. CallAgrees (result_type m.result) turns (result_of (meanings (source.calls_within d program.methods) b.statements (machine_at_start b args gathered turns []))) y) (sym (within_same e n (graph_method fields cs m b there.0) args gathered turns there.1))
+      (body_gives program.fields cs fields gms (source.calls_within d program.methods) (machine.calls_within e fields gms) turns (calls_agree d e turns ld le) m b there.0 (typed.bodies n m b im ib) no (only n b ib no) args gathered many arguments members)))
+
+pub calls_mean_their_code : CallsMeanTheirCode
+calls_mean_their_code class program typed only = calls_agree class program typed only turns_at_start turns_at_start turns_at_start (omega arith) (omega arith)
