@@ -456,10 +456,10 @@ module _ (class : Class) (program : Program) (typed : IsTyped class program) (on
   out_of_turns zero n args gathered = refl
   out_of_turns (suc d) n args gathered = refl
 
-  within_same : (e n : ℕ) (gm : GraphMethod) (args gathered : List Val) (turns : ℕ) → slice_get gms n ≡ Some gm
-      → machine.calls_within (suc e) fields gms n args gathered turns ≡ given_by (run (in_method fields gms (machine.calls_within e fields gms) gathered) gm.code (first_frame gm args turns) no_state)
+  within_same : (e n : ℕ) (of : GraphMethod) (args gathered : List Val) (turns : ℕ) → slice_get gms n ≡ Some of
+      → machine.calls_within (suc e) fields gms n args gathered turns ≡ given_by (run (in_method fields gms (machine.calls_within e fields gms) gathered) of.code (first_frame of args turns) no_state)
   unfolding machine.calls_within
-  within_same e n gm args gathered turns is = ap (λ o. method_run fields gms (machine.calls_within e fields gms) o args gathered turns) is
+  within_same e n of args gathered turns is = ap (λ o. method_run fields gms (machine.calls_within e fields gms) o args gathered turns) is
 
   pub calls_agree : (d e most : ℕ) → most ≤ d → most ≤ e → CallsAgree cs gms (source.calls_within d program.methods) (machine.calls_within e fields gms) most
   calls_agree zero e most l k = agree_by _ _ most (out_of_turns zero) (λ n m b im ib no args gathered many arguments members turns less. absurd (omega arith))

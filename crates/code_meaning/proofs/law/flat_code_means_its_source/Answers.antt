@@ -1,3 +1,4 @@
+use Rattle.code_meaning.proofs.Calling.{calls_mean_their_code}
 use Rattle.code_meaning.proofs.Expressions.{expressions_give_their_values}
 use Rattle.code_meaning.proofs.Foreseen.{completions_are_foreseen}
 use Rattle.code_meaning.proofs.PieceSizes.{piece_sized}
@@ -15,3 +16,6 @@ returns-clause-statements c = plain_statements_do_what_they_mean
 
 pub returns-clause-completions : goal.returns-clause-completions
 returns-clause-completions c = completions_are_foreseen
+
+pub returns-clause-calls : goal.returns-clause-calls
+returns-clause-calls c = calls_mean_their_code
