@@ -1,25 +1,22 @@
 -- What agreement gives and what keeps it.
-use Rattle.std.proofs.Common.{◌≡◌, ◌≢◌, ◌≤◌, ◌<◌, refl, sym, ap, subst, ◌∙◌, ℕ, zero, suc, ◌+◌, arith, Bool, true, false, cond, ◌&&◌, ◌||◌, not, nat_eq, List, [], ◌∷◌, ◌++◌, map, length, Option, Some, None, slice_get, slice_set, inl, inr, ◌⊎◌}
+use Rattle.std.proofs.Common.{◌≡◌, ◌≢◌, ◌≤◌, ◌<◌, refl, sym, ap, subst, ◌∙◌, ℕ, zero, suc, arith, Bool, true, false, ◌||◌, not, nat_eq, List, [], ◌∷◌, length, Option, Some, None, slice_get, slice_set, inl, inr, ◌⊎◌}
 use Rattle.std.specs.List.{AllByRecursion, list_all}
 use Rattle.std.proofs.lemmas.Bool.{false≢true, eqb-true}
 use Rattle.sdg_base.specs.declared.val.Val.{Val}
 use Rattle.sdg_base.specs.declared.value_type.ValueType.{ValueType}
 use Rattle.sdg_base.specs.Types as values
-use Rattle.state_classes.specs.States.{State, class_of}
+use Rattle.state_classes.specs.States.{State}
 use Rattle.java_tree.specs.declared.types.ValueType.{ValueType as VariableType}
 use Rattle.java_tree.specs.declared.method_kinds.MethodKind.{MethodKind}
 use Rattle.java_tree.specs.declared.method_kinds.MethodKind.TheVariants.{Entry, Helper, Merge}
-use Rattle.flat_code.specs.Types.{same_type, same_types}
-use Rattle.access_blocks.specs.declared.body.Expression.{Expression}
-use Rattle.access_blocks.specs.Expressions.{Ended, Gives, Ends, value_of, values_of}
-use Rattle.access_blocks.specs.Statements.{Field, Whole, Instances, Machine, seen_by, with_turns, with_variable, part_of, with_part, changed_field, with_state}
+use Rattle.access_blocks.specs.Statements.{Machine, seen_by, with_turns, with_variable}
 use Rattle.body_code.specs.declared.callee.Callee.{Callee}
 use Rattle.body_code.specs.Early.{is_in}
-use Rattle.body_code.specs.Typing.{Context, Needs, needs, needs_of_all, type_of, types_of, variable_type, variable_type_in, one_type}
-use Rattle.body_code.specs.Checking.{Surroundings, Standing, with_known, after_compound, same_number, same_value, is_none, are_known, covers, has_key, is_merge_of, takes_values, takes_gathered, are_met, is_type, are_types, takes, takes_all}
-use Rattle.code_meaning.specs.Evaluating.{AreOf, HasSame, MergesThese, HasKey, Meets, GathersSame}
-use Rattle.code_meaning.specs.Running.{Ground, IsGround, fields_with, FieldsAgree, Agrees}
-use Rattle.code_meaning.proofs.Lists.{none_some, some_is, both_true, get_within, get_set, get_set_other, length_set, same_or_not}
+use Rattle.body_code.specs.Typing.{Context, Needs, variable_type, variable_type_in, one_type}
+use Rattle.body_code.specs.Checking.{Surroundings, Standing, with_known, same_number, same_value, is_none, are_known, covers, has_key, is_merge_of, takes_values, takes_gathered, are_met, is_type, are_types, takes}
+use Rattle.code_meaning.specs.Evaluating.{AreOf, HasSame, MergesThese, Meets}
+use Rattle.code_meaning.specs.Running.{Ground, IsGround, FieldsAgree, Agrees}
+use Rattle.code_meaning.proofs.Lists.{none_some, both_true, get_within, get_set, get_set_other, length_set, same_or_not}
 use Rattle.code_meaning.proofs.Values.{same_is, same_are}
 
 -- ---- tests over lists

@@ -1,13 +1,12 @@
 -- Calls of the code of a typed class give what calls of its source give: by how deep they are.
-use Rattle.std.proofs.Common.{◌≡◌, ◌≢◌, ◌≤◌, ◌<◌, refl, sym, ap, ap₂, subst, ◌∙◌, ℕ, zero, suc, ◌+◌, ◌-◌, ◌*◌, pos, arith, Bool, true, false, cond, ◌||◌, nat_eq, List, [], ◌∷◌, ◌++◌, map, length, drop, replicate, Option, Some, None, slice_get, inl, inr, ◌⊎◌, length-append, append_assoc, mul-le-mul_right, mul_comm}
-use Rattle.std.specs.List.{AllByRecursion, range_with_len, flat_map}
+use Rattle.std.proofs.Common.{◌≡◌, ◌≢◌, ◌≤◌, ◌<◌, refl, sym, ap, ap₂, subst, ◌∙◌, ℕ, zero, suc, ◌+◌, ◌-◌, ◌*◌, arith, Bool, true, false, ◌||◌, nat_eq, List, [], ◌∷◌, ◌++◌, map, length, drop, replicate, Option, Some, None, slice_get, inl, inr, ◌⊎◌, length-append, append_assoc, mul-le-mul_right, mul_comm}
+use Rattle.std.specs.List.{AllByRecursion, range_with_len}
 use Rattle.std.proofs.lemmas.Bool.{false≢true, eq-eqb, eqb-true}
 use Rattle.std.proofs.lemmas.List.{length-replicate}
 use Rattle.sdg_base.specs.Limits.{turns_at_start}
 use Rattle.sdg_base.specs.declared.val.Val.{Val}
 use Rattle.sdg_base.specs.declared.val.Val.TheVariants as val
 use Rattle.sdg_base.specs.declared.value_type.ValueType.{ValueType}
-use Rattle.sdg_base.specs.declared.value_type.ValueType.TheVariants as type
 use Rattle.sdg_base.specs.Types as values
 use Rattle.state_classes.specs.States.{State}
 use Rattle.java_tree.specs.declared.tree.Class.{Class}
@@ -25,31 +24,31 @@ use Rattle.access_blocks.specs.declared.body.Body.{Body}
 use Rattle.access_blocks.specs.declared.body.Holder.{Holder}
 use Rattle.access_blocks.specs.declared.body.Program.{Program}
 use Rattle.access_blocks.specs.declared.halt.Halt.TheVariants.{OutOfTurns}
-use Rattle.access_blocks.specs.Expressions.{Calls, Ended, Gives, Ends}
-use Rattle.access_blocks.specs.Statements.{Machine, Completion, Normal, Breaks, Continues, Returns, Halts, Completed, completed, seen_by, meanings}
+use Rattle.access_blocks.specs.Expressions.{Calls, Ends}
+use Rattle.access_blocks.specs.Statements.{Machine, Completion, Normal, Breaks, Continues, Returns, Halts, completed, meanings}
 use Rattle.access_blocks.specs.Calls as source
 use Rattle.access_blocks.specs.Calls.{start_value, variables_at_start, machine_at_start, result_of, ran}
 use Rattle.body_code.specs.declared.callee.Callee.{Callee}
 use Rattle.access_blocks.specs.Programs.{methods_in}
-use Rattle.body_code.specs.Typing.{Context, type_by, one_type, variable_type, variable_type_in}
+use Rattle.body_code.specs.Typing.{type_by, one_type, variable_type, variable_type_in}
 use Rattle.body_code.specs.Completing.{body_completes, completing, breaking, leaving, leaving_of}
 use Rattle.code_meaning.specs.Foreseen.{IsForeseen}
-use Rattle.body_code.specs.Early.{is_in, early, early_after, all_of, assigned_in}
+use Rattle.body_code.specs.Early.{is_in, early, all_of, assigned_in}
 use Rattle.body_code.specs.ClassCode as code
 use Rattle.flat_code.specs.declared.graph.VariableType.TheVariants.{One}
 use Rattle.body_code.specs.ClassCode.{taken_types, callee, callees, result_type, first_type, members_of, context_of, set_at_start, started, body_place, no_exits, ending, ended, body_piece, body_code, variables_of, with_collection, one_of, graph_method, tasks_of, graph_methods}
-use Rattle.body_code.specs.Checking.{Standing, surroundings, at_start, known_parameters, IsOne, IsTypedBody, IsTyped, checked_list}
-use Rattle.code_meaning.specs.Laid.{IsLaid, frame, Leads, EndsSo, Stops}
+use Rattle.body_code.specs.Checking.{surroundings, at_start, known_parameters, IsOne, IsTypedBody, IsTyped}
+use Rattle.code_meaning.specs.Laid.{IsLaid, frame, Leads, EndsSo}
 use Rattle.code_meaning.specs.Evaluating.{IsValue, AreOf, HasSame, CallAgrees, HelperAgrees, CallsAgree}
-use Rattle.code_meaning.specs.Running.{Ground, IsGround, FieldsAgree, Agrees, Completes, all_plain, is_plain}
+use Rattle.code_meaning.specs.Running.{Ground, IsGround, Agrees, Completes, all_plain, is_plain}
 use Rattle.code_meaning.specs.Calling.{OnlyEntriesHaveBlocks, CallsMeanTheirCode}
-use Rattle.code_meaning.proofs.Lists.{none_some, some_is, get_within, within_get}
-use Rattle.code_meaning.proofs.Running.{laid_parts, more_fuel, one_end, leads_on, leads_to, ends_on, stops_on, ends_wider, stops_wider}
+use Rattle.code_meaning.proofs.Lists.{none_some, some_is}
+use Rattle.code_meaning.proofs.Running.{laid_parts, more_fuel, one_end, leads_to, ends_on, stops_on, ends_wider, stops_wider}
 use Rattle.code_meaning.proofs.Operands.{variable_value}
 use Rattle.code_meaning.proofs.PieceSizes.{pieces_sized}
 use Rattle.code_meaning.proofs.Plain.{statements_right}
 use Rattle.code_meaning.proofs.Foreseen.{list_foreseen}
-use Rattle.code_meaning.proofs.Starting.{HasType, IsEarly, StartsThere, IsSet, list_typed, early_typed, in_there, start_type, sets_all}
+use Rattle.code_meaning.proofs.Starting.{IsEarly, StartsThere, IsSet, list_typed, early_typed, in_there, sets_all}
 
 -- ---- lists
 

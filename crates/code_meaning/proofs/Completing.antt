@@ -1,23 +1,21 @@
 -- One completion after the other.
-use Rattle.std.proofs.Common.{◌≡◌, ◌≤◌, ◌<◌, refl, sym, ap, subst, ◌∙◌, ℕ, zero, suc, ◌+◌, arith, Bool, true, false, cond, if◌then◌else◌, List, [], ◌∷◌, ◌++◌, map, length, Option, Some, None, slice_get}
+use Rattle.std.proofs.Common.{◌≡◌, ◌≤◌, refl, sym, subst, ℕ, ◌+◌, arith, List, [], ◌∷◌, Some, slice_get}
 use Rattle.sdg_base.specs.declared.val.Val.{Val}
 use Rattle.sdg_base.specs.declared.value_type.ValueType.{ValueType}
 use Rattle.sdg_base.specs.Types as values
 use Rattle.state_classes.specs.States.{State}
-use Rattle.flat_code.specs.declared.graph.Instr.{Instr}
 use Rattle.flat_code.specs.declared.graph.Instr.TheVariants as instr
-use Rattle.flat_code.specs.Machine.{Setting, Frame, pushed_result}
-use Rattle.access_blocks.specs.declared.halt.Halt.{Halt}
+use Rattle.flat_code.specs.Machine.{Frame, pushed_result}
 use Rattle.access_blocks.specs.Expressions.{Ended, Gives, Ends}
 use Rattle.access_blocks.specs.Statements.{Machine, Completion, Normal, Breaks, Continues, Returns, Halts, Completed, completed, normal, with_turns, with_value, going_on, after, Running}
-use Rattle.body_code.specs.StatementCode.{Place, Exits}
+use Rattle.body_code.specs.StatementCode.{Exits}
 use Rattle.body_code.specs.Checking.{Standing, Around}
-use Rattle.code_meaning.specs.Laid.{IsLaid, frame, Leads, EndsSo, Stops}
+use Rattle.code_meaning.specs.Laid.{frame, Leads}
 use Rattle.code_meaning.specs.Evaluating.{IsValue, Evaluates}
-use Rattle.code_meaning.specs.Running.{Ground, IsGround, FieldsAgree, Agrees, GoesTo, Leaves, EndsWith, StopsBy, CompletesBy, Completes}
-use Rattle.code_meaning.proofs.Running.{one_step, stays, leads_on, ends_on, stops_on, wider, ends_wider, stops_wider, leads_to}
+use Rattle.code_meaning.specs.Running.{Ground, FieldsAgree, Agrees, GoesTo, Completes}
+use Rattle.code_meaning.proofs.Running.{one_step, stays, leads_on, ends_on, stops_on, wider, ends_wider, stops_wider}
 use Rattle.code_meaning.proofs.Operands.{on_stack}
-use Rattle.code_meaning.proofs.Agreeing.{Below, agrees_below, agrees_fewer, fields_fewer}
+use Rattle.code_meaning.proofs.Agreeing.{Below, agrees_below}
 
 module _ {g : Ground} where
   -- ---- a run before

@@ -1,20 +1,12 @@
 -- What single instructions do with operands, and one evaluation after the other.
-use Rattle.std.proofs.Common.{◌≡◌, ◌≢◌, ◌≤◌, ◌<◌, refl, sym, ap, subst, ◌∙◌, ℕ, zero, suc, ◌+◌, ℤ, pos, negsuc, arith, Bool, true, false, cond, if◌then◌else◌, nat_lt, List, [], ◌∷◌, ◌++◌, map, length, replicate, Option, Some, None, Result, Ok, Err, slice_get, unwrap_or, length-append}
-use Rattle.std.specs.List.{AllByRecursion}
-use Rattle.sdg_base.specs.declared.operator.BinOp.{BinOp}
-use Rattle.sdg_base.specs.declared.operator.BinOp.TheVariants as bin
-use Rattle.sdg_base.specs.declared.operator.UnOp.{UnOp}
-use Rattle.sdg_base.specs.declared.operator.UnOp.TheVariants as un
-use Rattle.sdg_base.specs.declared.val.Exn.{Exn}
+use Rattle.std.proofs.Common.{◌≡◌, ◌≤◌, refl, sym, ap, subst, ℕ, suc, ◌+◌, ℤ, pos, negsuc, arith, Bool, true, false, cond, if◌then◌else◌, nat_lt, List, ◌∷◌, length, replicate, Option, Some, None, Ok, Err, slice_get}
 use Rattle.sdg_base.specs.declared.val.Exn.TheVariants as exn
-use Rattle.sdg_base.specs.declared.val.Num.{Num}
-use Rattle.sdg_base.specs.declared.val.Outcome.{Outcome}
 use Rattle.sdg_base.specs.declared.val.Outcome.TheVariants as outcome
 use Rattle.sdg_base.specs.declared.val.Val.{Val}
 use Rattle.sdg_base.specs.declared.val.Val.TheVariants as val
 use Rattle.sdg_base.specs.declared.value_type.ValueType.{ValueType}
 use Rattle.sdg_base.specs.declared.value_type.ValueType.TheVariants as type
-use Rattle.sdg_base.specs.Operations.{Answer, operation, unary_operation, converted}
+use Rattle.sdg_base.specs.Operations.{Answer}
 use Rattle.sdg_base.specs.Types as values
 use Rattle.sdg_base.specs.Types.{binary_type, unary_type}
 use Rattle.flat_code.specs.Types.{same_type}
@@ -23,26 +15,18 @@ use Rattle.flat_code.specs.declared.graph.Instr.{Instr}
 use Rattle.flat_code.specs.declared.graph.Instr.TheVariants as instr
 use Rattle.flat_code.specs.Machine as machine
 use Rattle.flat_code.specs.Machine.{Setting, Frame, Performed, Goes, Stopped, Called, Gave, Failed, perform_on, pushed_result}
-use Rattle.access_blocks.specs.declared.body.Expression.{Expression, roll-Expression}
-use Rattle.access_blocks.specs.declared.body.Expression.TheOpen.{Expression-F}
-use Rattle.access_blocks.specs.declared.body.Expression.TheOpen as e
-use Rattle.access_blocks.specs.declared.body.Expression.TheFolds.{fold-roll-Expression, ind-Expression, map-Expression}
 use Rattle.access_blocks.specs.declared.halt.Halt.{Halt}
-use Rattle.access_blocks.specs.declared.halt.Halt.TheVariants.{Threw, OutOfTurns, TooLong}
-use Rattle.access_blocks.specs.Expressions.{Calls, Ended, Gives, Ends, Seen, Meaning, followed, outcome_of, answered, given, is_true, after_first, new_vector, most_elements, member_at, found, longs_in, size_of, variable_of, element_of, gathered_at, expression_step, value_of}
-use Rattle.access_blocks.specs.Expressions as source
-use Rattle.body_code.specs.Typing.{Context, Needs, both, needs, needs_step, type_of, type_step, variable_type, of_one, of_two, cast_type, chosen_type, alike, where_type, and_then, all_types, with_type, called_type, called_by, merged_type, merged_by}
-use Rattle.body_code.specs.Typing as typing
-use Rattle.body_code.specs.Codes.{Code, plain, followed_by}
-use Rattle.body_code.specs.Codes as codes
-use Rattle.body_code.specs.ExpressionCode.{Lowered, behind, either, unary, binary, operand_of, code_step, lowered_step, lowered, code_of}
-use Rattle.code_meaning.specs.Laid.{IsSized, IsLaid, frame, Leads, EndsSo, Stops}
-use Rattle.code_meaning.specs.Evaluating.{IsValue, AreOf, HasSame, CallAgrees, HelperAgrees, CallsAgree, MergesThese, HasKey, Meets, GathersSame, Evaluates}
+use Rattle.access_blocks.specs.declared.halt.Halt.TheVariants.{Threw, TooLong}
+use Rattle.access_blocks.specs.Expressions.{Ended, Gives, Ends, followed, outcome_of, answered, given, new_vector, most_elements, member_at, found, size_of, element_of}
+use Rattle.body_code.specs.Typing.{where_type, and_then}
+use Rattle.body_code.specs.Codes.{Code}
+use Rattle.body_code.specs.ExpressionCode.{either}
+use Rattle.code_meaning.specs.Laid.{IsSized, IsLaid, frame, Leads}
+use Rattle.code_meaning.specs.Evaluating.{IsValue, AreOf, Evaluates}
 use Rattle.code_meaning.proofs.Lists.{none_some, some_is}
-use Rattle.code_meaning.proofs.Values.{AnswerHas, ValueHas, operation_has, unary_has, same_is}
-use Rattle.code_meaning.proofs.Running.{laid_two, one_step, one_end, one_stop, leads_on, stops_on, wider, stops_wider, leads_to}
-use Rattle.code_meaning.proofs.Sizes.{code_sized, type_beside}
-use Rattle.code_meaning.proofs.Operands.{on_stack, a_value_is, variable_has_value, unary_values, plus_same, plus_type, AreTaken, binary_taken, condition_taken, operated_is, pushed_all, arguments_are}
+use Rattle.code_meaning.proofs.Values.{AnswerHas, ValueHas, same_is}
+use Rattle.code_meaning.proofs.Running.{laid_two, one_step, one_stop, leads_on, stops_on, wider, stops_wider, leads_to}
+use Rattle.code_meaning.proofs.Operands.{on_stack}
 
 -- ---- what is evaluated, as the start of more
 

@@ -1,5 +1,5 @@
 -- The code of an expression gives its value.
-use Rattle.std.proofs.Common.{◌≡◌, ◌≢◌, ◌≤◌, ◌<◌, refl, sym, ap, ap₂, subst, ◌∙◌, ℕ, zero, suc, ◌+◌, ℤ, pos, negsuc, arith, Bool, true, false, cond, ◌||◌, if◌then◌else◌, nat_lt, List, [], ◌∷◌, ◌++◌, map, length, replicate, Option, Some, None, Result, Ok, Err, slice_get, unwrap_or, length-append}
+use Rattle.std.proofs.Common.{◌≡◌, ◌≤◌, ◌<◌, refl, sym, ap, ap₂, subst, ◌∙◌, ℕ, zero, suc, ◌+◌, ℤ, pos, negsuc, arith, Bool, true, false, cond, ◌||◌, if◌then◌else◌, List, [], ◌∷◌, ◌++◌, map, length, Option, Some, None, slice_get, unwrap_or}
 use mathlib.Core.Path.{transport}
 use Rattle.std.specs.List.{AllByRecursion}
 use Rattle.std.proofs.lemmas.Bool.{false≢true}
@@ -7,17 +7,13 @@ use Rattle.sdg_base.specs.declared.operator.BinOp.{BinOp}
 use Rattle.sdg_base.specs.declared.operator.BinOp.TheVariants as bin
 use Rattle.sdg_base.specs.declared.operator.UnOp.{UnOp}
 use Rattle.sdg_base.specs.declared.operator.UnOp.TheVariants as un
-use Rattle.sdg_base.specs.declared.val.Exn.{Exn}
-use Rattle.sdg_base.specs.declared.val.Exn.TheVariants as exn
 use Rattle.sdg_base.specs.declared.val.Num.{Num}
 use Rattle.sdg_base.specs.declared.val.Num.TheVariants as num
-use Rattle.sdg_base.specs.declared.val.Outcome.{Outcome}
-use Rattle.sdg_base.specs.declared.val.Outcome.TheVariants as outcome
 use Rattle.sdg_base.specs.declared.val.Val.{Val}
 use Rattle.sdg_base.specs.declared.val.Val.TheVariants as val
 use Rattle.sdg_base.specs.declared.value_type.ValueType.{ValueType}
 use Rattle.sdg_base.specs.declared.value_type.ValueType.TheVariants as type
-use Rattle.sdg_base.specs.Operations.{Answer, operation, unary_operation, converted}
+use Rattle.sdg_base.specs.Operations.{operation, unary_operation, converted}
 use Rattle.sdg_base.specs.Types as values
 use Rattle.sdg_base.specs.Types.{binary_type, unary_type}
 use Rattle.flat_code.specs.Types.{same_type, same_types, right_type}
@@ -30,8 +26,7 @@ use Rattle.access_blocks.specs.declared.body.Expression.{Expression, roll-Expres
 use Rattle.access_blocks.specs.declared.body.Expression.TheOpen.{Expression-F}
 use Rattle.access_blocks.specs.declared.body.Expression.TheOpen as e
 use Rattle.access_blocks.specs.declared.body.Expression.TheFolds.{fold-roll-Expression, ind-Expression, map-Expression}
-use Rattle.access_blocks.specs.declared.halt.Halt.{Halt}
-use Rattle.access_blocks.specs.declared.halt.Halt.TheVariants.{Threw, OutOfTurns, TooLong}
+use Rattle.access_blocks.specs.declared.halt.Halt.TheVariants.{OutOfTurns}
 use Rattle.access_blocks.specs.Expressions.{Calls, Ended, Gives, Ends, Seen, Meaning, followed, outcome_of, answered, given, is_true, after_first, new_vector, most_elements, member_at, found, longs_in, size_of, variable_of, element_of, gathered_at, expression_step, value_of}
 use Rattle.access_blocks.specs.Expressions as source
 use Rattle.java_tree.specs.declared.method_kinds.MethodKind.{MethodKind}
@@ -42,13 +37,13 @@ use Rattle.body_code.specs.Typing as typing
 use Rattle.body_code.specs.Codes.{Code, plain, followed_by}
 use Rattle.body_code.specs.Codes as codes
 use Rattle.body_code.specs.ExpressionCode.{Lowered, behind, either, unary, binary, operand_of, code_step, lowered_step, lowered, code_of, codes_of}
-use Rattle.code_meaning.specs.Laid.{IsSized, IsLaid, frame, Leads, EndsSo, Stops}
+use Rattle.code_meaning.specs.Laid.{IsSized, IsLaid, frame, Leads, Stops}
 use Rattle.code_meaning.specs.Evaluating.{IsValue, AreOf, HasSame, CallAgrees, HelperAgrees, CallsAgree, MergesThese, HasKey, Meets, GathersSame, Evaluates, ExpressionsGiveTheirValues}
 use Rattle.code_meaning.proofs.Lists.{none_some, some_is}
 use Rattle.code_meaning.proofs.Values.{AnswerHas, ValueHas, operation_has, unary_has, same_is, same_are}
-use Rattle.code_meaning.proofs.Running.{laid_two, stays, one_step, one_end, one_stop, leads_on, stops_on, wider, stops_wider, leads_to}
-use Rattle.code_meaning.proofs.Evaluations.{onward, wide, arrives, operand_then, gives_value, throws, answers, gives_one, either_goes, makes_vector, takes_member, gives_size, takes_element, with_member, and_then_is, where_is, boolean_cases}
-use Rattle.code_meaning.proofs.Sizes.{followed_sized, behind_sized, code_sized, codes_sized, type_beside}
+use Rattle.code_meaning.proofs.Running.{laid_two, stays, one_step, one_stop, leads_on, stops_on, stops_wider, leads_to}
+use Rattle.code_meaning.proofs.Evaluations.{onward, wide, arrives, operand_then, gives_value, answers, gives_one, either_goes, makes_vector, takes_member, gives_size, takes_element, with_member, and_then_is, where_is, boolean_cases}
+use Rattle.code_meaning.proofs.Sizes.{followed_sized, behind_sized, code_sized, type_beside}
 use Rattle.code_meaning.proofs.Operands.{on_stack, a_value_is, variable_has_value, unary_values, plus_same, plus_type, AreTaken, binary_taken, condition_taken, operated_is, pushed_all, arguments_are}
 
 

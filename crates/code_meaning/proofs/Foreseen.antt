@@ -1,14 +1,12 @@
 -- How a typed statement completes is foreseen.
 use mathlib.Core.Path.{transport}
-use Rattle.std.proofs.Common.{◌≡◌, refl, sym, ap, subst, ◌∙◌, ℕ, zero, suc, Bool, true, false, cond, ◌&&◌, ◌||◌, not, if◌then◌else◌, List, [], ◌∷◌, map, Option, Some, None}
+use Rattle.std.proofs.Common.{◌≡◌, refl, sym, ap, subst, ◌∙◌, ℕ, zero, suc, Bool, true, false, ◌&&◌, ◌||◌, not, if◌then◌else◌, List, [], ◌∷◌, map, Option, Some, None}
 use Rattle.std.proofs.lemmas.Bool.{false≢true}
 use Rattle.sdg_base.specs.declared.val.Val.{Val}
 use Rattle.sdg_base.specs.declared.val.Val.TheVariants as val
 use Rattle.sdg_base.specs.declared.val.Outcome.{Outcome}
 use Rattle.sdg_base.specs.declared.val.Outcome.TheVariants as outcome
 use Rattle.sdg_base.specs.declared.value_type.ValueType.TheVariants as type
-use Rattle.state_classes.specs.declared.method.Method.{Method}
-use Rattle.state_classes.specs.States.{State, called}
 use Rattle.access_blocks.specs.declared.body.Access.{Access}
 use Rattle.access_blocks.specs.declared.body.Expression.{Expression}
 use Rattle.access_blocks.specs.declared.body.Target.{Target}
@@ -17,8 +15,8 @@ use Rattle.access_blocks.specs.declared.body.Statement.{Statement, roll-Statemen
 use Rattle.access_blocks.specs.declared.body.Statement.TheOpen.{Statement-F}
 use Rattle.access_blocks.specs.declared.body.Statement.TheOpen as s
 use Rattle.access_blocks.specs.declared.body.Statement.TheFolds.{fold-roll-Statement, ind-Statement, map-Statement}
-use Rattle.access_blocks.specs.Expressions.{Calls, Ended, Gives, Ends, is_true, value_of, values_of}
-use Rattle.access_blocks.specs.Statements.{Machine, Completion, Normal, Breaks, Continues, Returns, Halts, Completed, completed, normal, seen_by, with_turns, with_variable, with_value, evaluated, spending, spent, with_element, element_set, variable_in, part_of, with_state, targeted, called_on, access, marked, gathering, Running, going_on, after, in_order, otherwise, tested, looping, after_body, passes, looped, returned, statement_step, meaning, meanings}
+use Rattle.access_blocks.specs.Expressions.{Calls, Ended, Gives, Ends, is_true, value_of}
+use Rattle.access_blocks.specs.Statements.{Machine, Completion, Normal, Breaks, Continues, Returns, Halts, Completed, completed, normal, seen_by, with_turns, with_variable, with_value, evaluated, spending, spent, with_element, element_set, variable_in, targeted, Running, going_on, after, tested, looping, after_body, passes, looped, returned, statement_step, meaning, meanings}
 use Rattle.body_code.specs.Completing.{Is, is_constant_true, goes_on, constant_of, Leaving, leaving, completing, breaking, of_second, is_returned, leaving_step, leaving_of, Constant, IsNone, HasNoValue}
 use Rattle.body_code.specs.Checking.{Surroundings, Standing, Around, Checking, in_block, outside, opened, met, takes, with_known, is_type, checked_step, checked, checked_list}
 use Rattle.body_code.specs.Checking as checking

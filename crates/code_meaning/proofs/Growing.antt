@@ -1,12 +1,10 @@
 -- A variable that has a value before a typed statement has one after it.
-use Rattle.std.proofs.Common.{◌≡◌, refl, sym, ap, subst, ◌∙◌, ℕ, zero, suc, Bool, true, false, cond, ◌&&◌, ◌||◌, not, if◌then◌else◌, nat_eq, List, [], ◌∷◌, map, Option, Some, None, slice_get}
-use Rattle.std.proofs.lemmas.Bool.{false≢true}
+use Rattle.std.proofs.Common.{◌≡◌, refl, sym, ap, subst, ◌∙◌, ℕ, Bool, true, false, cond, ◌||◌, nat_eq, List, [], ◌∷◌, map, Option, Some, None}
 use Rattle.sdg_base.specs.declared.value_type.ValueType.{ValueType}
 use Rattle.sdg_base.specs.Signatures.{Signature}
 use Rattle.access_blocks.specs.declared.body.Access.{Access}
 use Rattle.access_blocks.specs.declared.body.Expression.{Expression}
 use Rattle.access_blocks.specs.declared.body.Gather.{Gather}
-use Rattle.access_blocks.specs.declared.body.Mark.{Mark}
 use Rattle.access_blocks.specs.declared.body.Target.{Target}
 use Rattle.access_blocks.specs.declared.body.Target.TheVariants as target
 use Rattle.access_blocks.specs.declared.body.Statement.{Statement, roll-Statement}
@@ -15,7 +13,7 @@ use Rattle.access_blocks.specs.declared.body.Statement.TheOpen as s
 use Rattle.access_blocks.specs.declared.body.Statement.TheFolds.{fold-roll-Statement, ind-Statement, map-Statement}
 use Rattle.body_code.specs.Early.{is_in}
 use Rattle.body_code.specs.Typing.{needs, type_of, variable_type}
-use Rattle.body_code.specs.Checking.{Surroundings, Standing, Around, Checking, if_so, with_known, outside, in_block, gathering, after_compound, meet, are_met, is_type, to_variable, assigned, set_element, evaluated, targeted, signature_of, is_access, access, gather, is_entry, is_key_of, marked, next, in_order, opened, compound, met, otherwise, branching, takes, is_condition, ends_as, passing, looping, jumping, returning, checked_step, checked, checked_list}
+use Rattle.body_code.specs.Checking.{Surroundings, Standing, Around, Checking, if_so, with_known, outside, in_block, gathering, after_compound, meet, are_met, is_type, to_variable, assigned, targeted, signature_of, is_access, access, gather, next, in_order, opened, compound, met, otherwise, branching, takes, passing, looping, jumping, returning, checked_step, checked, checked_list}
 use Rattle.code_meaning.proofs.Lists.{none_some, some_is}
 
 -- what is known first is known then

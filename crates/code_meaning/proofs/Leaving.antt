@@ -1,7 +1,6 @@
 -- How a typed statement completes is foreseen by the rules on which statements can complete.
 use mathlib.Core.Path.{transport}
-use Rattle.std.proofs.Common.{◌≡◌, refl, sym, ap, subst, ◌∙◌, ℕ, zero, suc, Bool, true, false, cond, ◌&&◌, ◌||◌, not, if◌then◌else◌, List, [], ◌∷◌, map, Option, Some, None, Result, Ok, Err, unwrap_or, inl, inr, ◌⊎◌}
-use Rattle.std.proofs.lemmas.Bool.{false≢true}
+use Rattle.std.proofs.Common.{◌≡◌, refl, sym, ap, subst, ◌∙◌, ℕ, true, false, if◌then◌else◌, Option, Some, None, Result, Ok, Err, inl, inr, ◌⊎◌}
 use Rattle.sdg_base.specs.declared.operator.BinOp.{BinOp}
 use Rattle.sdg_base.specs.declared.operator.BinOp.TheVariants as bin
 use Rattle.sdg_base.specs.declared.val.Exn.{Exn}
@@ -12,10 +11,9 @@ use Rattle.access_blocks.specs.declared.body.Expression.{Expression, roll-Expres
 use Rattle.access_blocks.specs.declared.body.Expression.TheOpen.{Expression-F}
 use Rattle.access_blocks.specs.declared.body.Expression.TheOpen as e
 use Rattle.access_blocks.specs.declared.body.Expression.TheFolds.{fold-roll-Expression, ind-Expression, map-Expression}
-use Rattle.access_blocks.specs.Expressions.{Calls, Ended, Gives, Ends, Seen, Meaning, followed, after_first, answered, given, is_true, expression_step, value_of}
+use Rattle.access_blocks.specs.Expressions.{Calls, Ended, Gives, Seen, Meaning, followed, after_first, answered, given, is_true, expression_step, value_of}
 use Rattle.body_code.specs.Completing.{Constant, IsNone, HasNoValue, Is, on_one, on_two, chosen, operated, constant_step, constant_of}
 use Rattle.body_code.specs.Completing as completing
-use Rattle.code_meaning.proofs.Lists.{none_some, some_is}
 
 -- ---- constants
 

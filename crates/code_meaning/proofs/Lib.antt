@@ -18,3 +18,4 @@ mod Leaving
 mod Foreseen
 mod Starting
 mod Calling
+mod Cutting

@@ -1,36 +1,30 @@
 -- The code of a loop does what the loop means, pass by pass: each pass spends a turn.
-use Rattle.std.proofs.Common.{◌≡◌, ◌≤◌, ◌<◌, refl, sym, ap, subst, ◌∙◌, ℕ, zero, suc, ◌+◌, ◌*◌, arith, Bool, true, false, cond, ◌&&◌, if◌then◌else◌, List, [], ◌∷◌, ◌++◌, map, length, Option, Some, None, slice_get, add_assoc, mul-le-mul_left}
-use Rattle.std.proofs.lemmas.Bool.{false≢true}
+use Rattle.std.proofs.Common.{◌≡◌, ◌≤◌, ◌<◌, refl, sym, ap, subst, ◌∙◌, ℕ, zero, suc, ◌+◌, ◌*◌, arith, Bool, true, false, if◌then◌else◌, List, [], ◌∷◌, Option, Some, None, slice_get, add_assoc, mul-le-mul_left}
 use Rattle.sdg_base.specs.declared.val.Val.{Val}
 use Rattle.sdg_base.specs.declared.val.Val.TheVariants as val
 use Rattle.sdg_base.specs.declared.value_type.ValueType.TheVariants as type
-use Rattle.sdg_base.specs.Types as values
 use Rattle.state_classes.specs.States.{State}
 use Rattle.flat_code.specs.declared.graph.Instr.{Instr}
 use Rattle.flat_code.specs.declared.graph.Instr.TheVariants as instr
-use Rattle.flat_code.specs.Machine.{Setting, Frame, Goes, perform_on, pushed_result, run_within, Ending}
+use Rattle.flat_code.specs.Machine.{Setting, Frame, run_within, Ending}
 use Rattle.access_blocks.specs.declared.body.Expression.{Expression}
-use Rattle.access_blocks.specs.declared.halt.Halt.{Halt}
-use Rattle.access_blocks.specs.declared.halt.Halt.TheVariants.{OutOfTurns}
 use Rattle.access_blocks.specs.Expressions.{Ended, Gives, Ends, is_true, value_of}
-use Rattle.access_blocks.specs.Statements.{Machine, Completion, Normal, Breaks, Continues, Returns, Halts, Completed, completed, normal, seen_by, with_turns, with_value, spending, spent, Running, going_on, after, tested, looping, after_body, passes, looped}
-use Rattle.body_code.specs.Typing.{Context, type_of}
-use Rattle.body_code.specs.Codes.{nothing}
+use Rattle.access_blocks.specs.Statements.{Machine, Completion, Normal, Breaks, Continues, Returns, Halts, Completed, completed, normal, seen_by, with_turns, with_value, spent, Running, going_on, after, tested, looping, after_body, passes}
 use Rattle.body_code.specs.ExpressionCode.{code_of}
 use Rattle.body_code.specs.StatementCode.{Place, Exits, Piece, behind_piece, of_code, of_instructions, then_piece, in_order, next_pass}
 use Rattle.body_code.specs.StatementCode as code
 use Rattle.body_code.specs.Checking.{Standing, Around, Checking, is_condition}
-use Rattle.code_meaning.specs.Laid.{IsSizedPiece, IsLaid, frame, Leads, EndsSo, Stops}
+use Rattle.code_meaning.specs.Laid.{IsSizedPiece, IsLaid, frame, Leads, EndsSo}
 use Rattle.code_meaning.specs.Evaluating.{Evaluates}
-use Rattle.code_meaning.specs.Running.{Ground, IsGround, FieldsAgree, Agrees, GoesTo, Leaves, EndsWith, StopsBy, Completes}
+use Rattle.code_meaning.specs.Running.{Ground, IsGround, Agrees, GoesTo, Completes}
 use Rattle.code_meaning.proofs.Lists.{none_some, some_is}
-use Rattle.code_meaning.proofs.Running.{laid_two, one_step, one_turn, one_stop, stays, leads_on, ends_on, stops_on, wider, leads_to, stops_wider}
+use Rattle.code_meaning.proofs.Running.{laid_two, one_step, one_turn, one_stop, stays, leads_on, stops_on, wider, leads_to, stops_wider}
 use Rattle.code_meaning.proofs.Evaluations.{boolean_cases}
 use Rattle.code_meaning.proofs.Sizes.{code_sized}
 use Rattle.code_meaning.proofs.Operands.{on_stack}
 use Rattle.code_meaning.proofs.Agreeing.{Below, agrees_below, agrees_fewer}
 use Rattle.code_meaning.proofs.Completing.{completes_on, completes_wider}
-use Rattle.code_meaning.proofs.PieceSizes.{tested_sized, way_back, updated, bodied, turned, then_sized, back_sized}
+use Rattle.code_meaning.proofs.PieceSizes.{tested_sized, way_back, updated, bodied, turned}
 use Rattle.code_meaning.proofs.Simple.{Does, evaluates_taken}
 
 -- ---- a pass, after which a turn is spent

@@ -1,7 +1,5 @@
 -- Which operands have values, of which types; and arguments on a stack.
-use Rattle.std.proofs.Common.{◌≡◌, ◌≢◌, refl, sym, ap, subst, ◌∙◌, ℕ, zero, suc, ◌+◌, arith, Bool, true, false, cond, List, [], ◌∷◌, ◌++◌, map, length, Option, Some, None, unwrap_or}
-use Rattle.std.specs.List.{AllByRecursion}
-use Rattle.std.proofs.lemmas.Bool.{false≢true}
+use Rattle.std.proofs.Common.{◌≡◌, refl, sym, ap, subst, ◌∙◌, ℕ, zero, suc, cond, List, [], ◌∷◌, ◌++◌, length, Option, Some, None, unwrap_or}
 use Rattle.sdg_base.specs.declared.operator.BinOp.{BinOp}
 use Rattle.sdg_base.specs.declared.operator.BinOp.TheVariants as bin
 use Rattle.sdg_base.specs.declared.operator.UnOp.{UnOp}
@@ -10,18 +8,18 @@ use Rattle.sdg_base.specs.declared.val.Val.{Val}
 use Rattle.sdg_base.specs.declared.val.Val.TheVariants as val
 use Rattle.sdg_base.specs.declared.value_type.ValueType.{ValueType}
 use Rattle.sdg_base.specs.declared.value_type.ValueType.TheVariants as type
-use Rattle.sdg_base.specs.Operations.{operation, unary_operation, on_number}
+use Rattle.sdg_base.specs.Operations.{operation, unary_operation}
 use Rattle.sdg_base.specs.Types.{type_of, binary_type, unary_type, arithmetic_type, shift_type, order_type, equality_type, bitwise_type, condition_type, number_type, boolean_type}
 use Rattle.java_tree.specs.declared.types.ValueType.{ValueType as VariableType}
 use Rattle.java_tree.specs.declared.types.ValueType.TheVariants as variable
 use Rattle.flat_code.specs.declared.graph.OperandType.{OperandType}
-use Rattle.flat_code.specs.Types.{operand_type, right_type, same_type, is_shift}
+use Rattle.flat_code.specs.Types.{operand_type, right_type, same_type}
 use Rattle.flat_code.specs.Machine.{arguments, with_last, pushed_result, a_value, operated}
 use Rattle.body_code.specs.Typing.{Context, type_by, one_type, variable_type, variable_type_in}
 use Rattle.body_code.specs.ExpressionCode.{operand_of}
 use Rattle.code_meaning.specs.Evaluating.{IsValue}
 use Rattle.code_meaning.proofs.Lists.{none_some, some_is}
-use Rattle.code_meaning.proofs.Values.{same_is, same_refl, is_same}
+use Rattle.code_meaning.proofs.Values.{is_same}
 
 -- ---- values on a stack
 

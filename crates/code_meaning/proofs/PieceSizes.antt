@@ -1,5 +1,5 @@
 -- The code of statements is as long as its size says, whatever its place.
-use Rattle.std.proofs.Common.{◌≡◌, ◌+◌, ℕ, zero, suc, List, [], ◌∷◌, ◌++◌, length, map, Option, Some, None, refl, sym, ap, subst, ◌∙◌, length-append, arith}
+use Rattle.std.proofs.Common.{◌≡◌, ◌+◌, ℕ, zero, suc, List, [], ◌∷◌, length, map, Option, Some, None, refl, sym, ap, subst, ◌∙◌, length-append, arith}
 use Rattle.std.specs.List.{range_with_len}
 use Rattle.flat_code.specs.declared.graph.Instr.{Instr}
 use Rattle.flat_code.specs.declared.graph.Instr.TheVariants as instr
@@ -14,7 +14,7 @@ use Rattle.access_blocks.specs.declared.body.Statement.TheFolds.{fold-roll-State
 use Rattle.body_code.specs.Typing.{Context, type_of}
 use Rattle.body_code.specs.Codes.{Code, plain, nothing, followed_by}
 use Rattle.body_code.specs.ExpressionCode.{behind, code_of, codes_of}
-use Rattle.body_code.specs.StatementCode.{Place, Exits, Piece, Scope, moved, behind_piece, of_code, of_instructions, then_piece, in_order, access, targeted, result_of, signature_of, field_name, key_code, cut, marked, stored_from, stored, visit, gather, guarded, jumped_over, branches, tested, pass, passes, looped, jump_to, returned, dropped, piece_step, piece_of, pieces_of}
+use Rattle.body_code.specs.StatementCode.{Piece, Scope, moved, behind_piece, of_code, of_instructions, then_piece, in_order, access, targeted, result_of, signature_of, field_name, key_code, cut, marked, stored_from, stored, visit, gather, guarded, jumped_over, branches, tested, passes, returned, dropped, piece_step, piece_of, pieces_of}
 use Rattle.code_meaning.specs.Laid.{IsSized, IsSizedPiece}
 use Rattle.code_meaning.proofs.Sizes.{followed_sized, behind_sized, code_sized, codes_sized}
 

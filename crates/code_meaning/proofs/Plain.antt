@@ -1,24 +1,19 @@
 -- The code of statements without marks does what they mean.
 use mathlib.Core.Path.{transport}
-use Rattle.std.proofs.Common.{◌≡◌, ◌≤◌, ◌<◌, refl, sym, ap, subst, ◌∙◌, ℕ, zero, suc, ◌+◌, arith, Bool, true, false, cond, ◌&&◌, if◌then◌else◌, List, [], ◌∷◌, ◌++◌, map, length, Option, Some, None, slice_get}
+use Rattle.std.proofs.Common.{◌≡◌, ◌<◌, refl, sym, subst, ◌∙◌, ℕ, suc, ◌+◌, arith, Bool, true, false, ◌&&◌, if◌then◌else◌, List, [], ◌∷◌, map, Option, Some, None, slice_get}
 use Rattle.std.proofs.lemmas.Bool.{false≢true}
 use Rattle.sdg_base.specs.declared.val.Val.{Val}
 use Rattle.sdg_base.specs.declared.val.Val.TheVariants as val
-use Rattle.sdg_base.specs.declared.value_type.ValueType.{ValueType}
 use Rattle.sdg_base.specs.declared.value_type.ValueType.TheVariants as type
-use Rattle.sdg_base.specs.Types as values
 use Rattle.state_classes.specs.States.{State}
-use Rattle.flat_code.specs.declared.graph.Instr.{Instr}
 use Rattle.flat_code.specs.declared.graph.Instr.TheVariants as instr
-use Rattle.flat_code.specs.Machine.{Frame}
 use Rattle.access_blocks.specs.declared.body.Expression.{Expression}
 use Rattle.access_blocks.specs.declared.body.Statement.{Statement, roll-Statement}
 use Rattle.access_blocks.specs.declared.body.Statement.TheOpen.{Statement-F}
 use Rattle.access_blocks.specs.declared.body.Statement.TheOpen as s
 use Rattle.access_blocks.specs.declared.body.Statement.TheFolds.{fold-roll-Statement, ind-Statement, map-Statement}
 use Rattle.access_blocks.specs.Expressions.{is_true, value_of}
-use Rattle.access_blocks.specs.Statements.{Machine, Completion, Normal, Breaks, Continues, Returns, Halts, Completed, completed, normal, seen_by, with_turns, evaluated, after, Running, otherwise, looped, statement_step, meaning, meanings}
-use Rattle.access_blocks.specs.Statements as source
+use Rattle.access_blocks.specs.Statements.{Machine, Completed, normal, seen_by, with_turns, evaluated, after, Running, looped, statement_step, meaning, meanings}
 use Rattle.body_code.specs.Early.{is_in}
 use Rattle.body_code.specs.Codes.{nothing}
 use Rattle.body_code.specs.ExpressionCode.{code_of}
@@ -26,15 +21,15 @@ use Rattle.body_code.specs.StatementCode.{Place, Exits, Piece, moved, behind_pie
 use Rattle.body_code.specs.Checking.{Surroundings, Standing, Around, Checking, after_compound, meet, common, same_number, same_value, compound, met, takes, is_condition, ends_as, covers, checked_step, checked, checked_list}
 use Rattle.body_code.specs.Checking as checking
 use Rattle.code_meaning.specs.Laid.{IsSizedPiece, IsLaid, frame, Leads}
-use Rattle.code_meaning.specs.Running.{Ground, IsGround, scope_on, Agrees, Completes, all_plain, in_second, plain_step, is_plain, PlainStatementsDoWhatTheyMean}
+use Rattle.code_meaning.specs.Running.{Ground, IsGround, scope_on, Agrees, Completes, all_plain, plain_step, is_plain, PlainStatementsDoWhatTheyMean}
 use Rattle.code_meaning.proofs.Lists.{none_some, some_is, both_true}
 use Rattle.code_meaning.proofs.Running.{laid_two, one_step, leads_to}
 use Rattle.code_meaning.proofs.Evaluations.{boolean_cases}
 use Rattle.code_meaning.proofs.Sizes.{code_sized}
-use Rattle.code_meaning.proofs.Agreeing.{Below, same_number_is, same_value_is, covers_below, agrees_below, agrees_fewer}
+use Rattle.code_meaning.proofs.Agreeing.{Below, same_number_is, same_value_is, covers_below, agrees_fewer}
 use Rattle.code_meaning.proofs.Completing.{completes_on, completes_wider, completes_to, completes_below, after_goes, completes_already, value_goes, completes_jump}
 use Rattle.code_meaning.proofs.PieceSizes.{guarded_sized, piece_sized, pieces_sized}
-use Rattle.code_meaning.proofs.Growing.{Grows, AllGrow, if_so_is, if_then, next_is, checked_grows, list_checked_grows, next_grows}
+use Rattle.code_meaning.proofs.Growing.{Grows, AllGrow, if_so_is, if_then, next_is, checked_grows, list_checked_grows}
 use Rattle.code_meaning.proofs.Simple.{Does, assign_does, set_element_does, evaluate_does, return_does, break_does, continue_does, access_does, evaluates_taken}
 use Rattle.code_meaning.proofs.Loops.{not_broken, passes_go}
 

@@ -1,7 +1,6 @@
 -- The code of simple statements does what they mean.
-use Rattle.std.proofs.Common.{◌≡◌, ◌≤◌, ◌<◌, refl, sym, ap, ap₂, subst, ◌∙◌, ℕ, zero, suc, ◌+◌, ℤ, pos, negsuc, arith, Bool, true, false, cond, ◌&&◌, ◌||◌, not, nat_lt, if◌then◌else◌, List, [], ◌∷◌, ◌++◌, map, length, Option, Some, None, slice_get, slice_set, unwrap_or}
-use Rattle.std.specs.List.{AllByRecursion, list_all}
-use Rattle.std.specs.Str.{bytes_eq}
+use Rattle.std.proofs.Common.{◌≡◌, ◌≤◌, ◌<◌, refl, sym, ap, ap₂, subst, ◌∙◌, ℕ, suc, ◌+◌, pos, negsuc, arith, Bool, true, false, cond, ◌||◌, not, nat_lt, List, [], ◌∷◌, ◌++◌, map, length, Option, Some, None, slice_get, slice_set, unwrap_or}
+use Rattle.std.specs.List.{AllByRecursion}
 use Rattle.std.proofs.lemmas.Bool.{false≢true, lt-ltb}
 use Rattle.std.proofs.lemmas.Slice.Eq.{bytes_eq-Decides}
 use Rattle.sdg_base.specs.declared.val.Exn.TheVariants as exn
@@ -19,7 +18,6 @@ use Rattle.state_classes.specs.declared.method.Method.{Method}
 use Rattle.state_classes.specs.declared.method.Method.TheVariants as method
 use Rattle.state_classes.specs.Methods.{signature}
 use Rattle.state_classes.specs.States.{State, class_of, called}
-use Rattle.flat_code.specs.declared.graph.GraphField.{GraphField}
 use Rattle.flat_code.specs.declared.graph.Instr.{Instr}
 use Rattle.flat_code.specs.declared.graph.Instr.TheVariants as instr
 use Rattle.flat_code.specs.Types as flat
@@ -28,31 +26,28 @@ use Rattle.flat_code.specs.Machine as machine
 use Rattle.flat_code.specs.Machine.{Setting, Frame, Performed, Goes, Accesses, Stopped, Returned, perform_on, pushed_result}
 use Rattle.access_blocks.specs.declared.body.Access.{Access}
 use Rattle.access_blocks.specs.declared.body.Expression.{Expression}
-use Rattle.access_blocks.specs.declared.body.Holder.{Holder}
 use Rattle.access_blocks.specs.declared.body.Target.{Target}
 use Rattle.access_blocks.specs.declared.body.Target.TheVariants as target
-use Rattle.access_blocks.specs.declared.halt.Halt.{Halt}
-use Rattle.access_blocks.specs.declared.halt.Halt.TheVariants.{Threw, OutOfTurns, TooLong}
 use Rattle.access_blocks.specs.Expressions.{Ended, Gives, Ends, value_of, values_of}
 use Rattle.access_blocks.specs.Statements.{Machine, Completion, Normal, Breaks, Continues, Returns, Halts, Completed, completed, normal, seen_by, with_turns, with_variable, with_value, evaluated, with_element, element_set, variable_in, part_of, with_state, targeted, called_on, returned, Running}
 use Rattle.access_blocks.specs.Statements as source
 use Rattle.body_code.specs.Early.{is_in}
-use Rattle.body_code.specs.Typing.{Context, Needs, needs, needs_of_all, type_of, types_of, variable_type}
-use Rattle.body_code.specs.Codes.{Code, plain, followed_by}
+use Rattle.body_code.specs.Typing.{needs, needs_of_all, type_of, types_of, variable_type}
+use Rattle.body_code.specs.Codes.{plain, followed_by}
 use Rattle.body_code.specs.ExpressionCode.{behind, code_of, codes_of}
 use Rattle.body_code.specs.StatementCode.{Place, Exits, Piece, Scope, of_code}
 use Rattle.body_code.specs.StatementCode as code
 use Rattle.body_code.specs.Checking.{Surroundings, Standing, Around, Checking, with_known, are_met, is_type, takes, takes_all, has_type, is_partitioned, is_access, is_result, is_void, same_number}
 use Rattle.body_code.specs.Checking as checking
-use Rattle.code_meaning.specs.Laid.{IsLaid, frame, Leads, EndsSo, Stops}
+use Rattle.code_meaning.specs.Laid.{IsLaid, frame, Leads}
 use Rattle.code_meaning.specs.Evaluating.{IsValue, HasSame, Evaluates}
-use Rattle.code_meaning.specs.Running.{Ground, IsGround, SiteAgrees, scope_on, FieldsAgree, Agrees, GoesTo, EndsWith, StopsBy, Completes}
+use Rattle.code_meaning.specs.Running.{Ground, IsGround, scope_on, FieldsAgree, Agrees, Completes}
 use Rattle.code_meaning.proofs.Lists.{none_some, some_is, both_true}
 use Rattle.code_meaning.proofs.Values.{same_is, are_same}
 use Rattle.code_meaning.proofs.States.{Answers, OutcomeHas, call_answers, call_keeps}
-use Rattle.code_meaning.proofs.Running.{laid_two, one_step, one_end, one_stop, one_access, one_refused, stays, leads_on, ends_on, stops_on, leads_to, stops_wider}
+use Rattle.code_meaning.proofs.Running.{laid_two, one_step, one_end, one_stop, one_access, one_refused, stays, leads_to, stops_wider}
 use Rattle.code_meaning.proofs.Sizes.{followed_sized, code_sized, codes_sized}
-use Rattle.code_meaning.proofs.Operands.{on_stack, a_value_is, variable_has_value, pushed_all, arguments_are}
+use Rattle.code_meaning.proofs.Operands.{on_stack, variable_has_value, pushed_all, arguments_are}
 use Rattle.code_meaning.proofs.Expressions.{EvaluatesAll, expression_right, expressions_right}
 use Rattle.code_meaning.proofs.Agreeing.{Below, covers_below, agrees_below, agrees_fewer, agrees_set, variable_within, meets_of, is_type_is, are_types_are, same_number_is}
 use Rattle.code_meaning.proofs.Sites.{part_is, class_is, fields_set}

@@ -1,10 +1,9 @@
 -- The part of a field that is the state of the code.
-use Rattle.std.proofs.Common.{◌≡◌, ◌<◌, refl, sym, ap, subst, ◌∙◌, ℕ, zero, suc, arith, List, [], ◌∷◌, length, Option, Some, None, slice_get, slice_set}
+use Rattle.std.proofs.Common.{◌≡◌, refl, sym, ap, ◌∙◌, ℕ, zero, suc, List, [], ◌∷◌, Some, slice_get, slice_set}
 use Rattle.state_classes.specs.States.{State, class_of}
-use Rattle.access_blocks.specs.declared.body.Holder.{Holder}
 use Rattle.access_blocks.specs.Statements.{Field, Whole, Instances, Machine, part_of, with_part, changed_field, with_state}
-use Rattle.code_meaning.specs.Running.{Ground, IsGround, SiteAgrees, fields_with, FieldsAgree}
-use Rattle.code_meaning.proofs.Lists.{none_some, some_is, get_within, get_set}
+use Rattle.code_meaning.specs.Running.{Ground, SiteAgrees, fields_with, FieldsAgree}
+use Rattle.code_meaning.proofs.Lists.{get_within, get_set}
 
 set_set : {A : Type 0} (xs : List A) (i : ℕ) (x y : A) → slice_set (slice_set xs i x) i y ≡ slice_set xs i y
 set_set [] i x y = refl

@@ -1,5 +1,5 @@
 -- The code of expressions is as long as its size says, whatever its place.
-use Rattle.std.proofs.Common.{◌≡◌, ◌+◌, ℕ, suc, true, false, List, [], ◌∷◌, ◌++◌, length, map, Option, Some, None, refl, sym, ap, subst, ◌∙◌, length-append, arith}
+use Rattle.std.proofs.Common.{◌≡◌, ◌+◌, true, false, List, [], ◌∷◌, map, Option, refl, sym, ap, subst, ◌∙◌, length-append, arith}
 use Rattle.sdg_base.specs.declared.operator.BinOp.{BinOp}
 use Rattle.sdg_base.specs.declared.operator.BinOp.TheVariants as bin
 use Rattle.sdg_base.specs.declared.operator.UnOp.{UnOp}
@@ -11,7 +11,7 @@ use Rattle.access_blocks.specs.declared.body.Expression.{Expression, roll-Expres
 use Rattle.access_blocks.specs.declared.body.Expression.TheOpen.{Expression-F}
 use Rattle.access_blocks.specs.declared.body.Expression.TheOpen as e
 use Rattle.access_blocks.specs.declared.body.Expression.TheFolds.{fold-roll-Expression, ind-Expression, map-Expression}
-use Rattle.body_code.specs.Typing.{Context, type_step, type_of, of_two, chosen_type, called_type, all_types, with_type, and_then, where_type}
+use Rattle.body_code.specs.Typing.{Context, type_step, type_of}
 use Rattle.body_code.specs.Codes.{Code, plain, followed_by, all_of}
 use Rattle.body_code.specs.ExpressionCode.{Lowered, behind, either, unary, binary, operand_of, code_step, lowered_step, lowered, code_of, codes_of}
 use Rattle.code_meaning.specs.Laid.{IsSized}

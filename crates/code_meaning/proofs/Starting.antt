@@ -1,8 +1,8 @@
 -- The start of a body: locals that may be read before their text are set as the source sets them.
 use mathlib.Core.Path.{transport}
-use Rattle.std.proofs.Common.{◌≡◌, ◌≢◌, ◌≤◌, ◌<◌, refl, sym, ap, subst, ◌∙◌, ℕ, zero, suc, ◌+◌, ◌-◌, pos, arith, Bool, true, false, cond, ◌&&◌, ◌||◌, nat_eq, if◌then◌else◌, List, [], ◌∷◌, ◌++◌, map, length, drop, replicate, Option, Some, None, slice_get, slice_set, inl, inr, ◌⊎◌, length-append}
-use Rattle.std.specs.List.{AllByRecursion, flat_map, range_with_len}
-use Rattle.std.proofs.lemmas.Bool.{false≢true, lt-ltb, eq-eqb}
+use Rattle.std.proofs.Common.{◌≡◌, ◌≢◌, ◌≤◌, ◌<◌, refl, sym, ap, subst, ◌∙◌, ℕ, zero, suc, ◌+◌, pos, arith, Bool, true, false, cond, ◌&&◌, ◌||◌, nat_eq, List, [], ◌∷◌, ◌++◌, map, length, Option, Some, None, slice_get, slice_set, inl, inr, ◌⊎◌, length-append}
+use Rattle.std.specs.List.{AllByRecursion, flat_map}
+use Rattle.std.proofs.lemmas.Bool.{false≢true, lt-ltb}
 use Rattle.sdg_base.specs.declared.val.Val.{Val}
 use Rattle.sdg_base.specs.declared.val.Val.TheVariants as val
 use Rattle.sdg_base.specs.declared.value_type.ValueType.{ValueType}
@@ -25,8 +25,8 @@ use Rattle.access_blocks.specs.declared.body.Statement.TheOpen as s
 use Rattle.access_blocks.specs.declared.body.Statement.TheFolds.{fold-roll-Statement, ind-Statement, map-Statement}
 use Rattle.access_blocks.specs.Calls.{start_value}
 use Rattle.body_code.specs.Typing.{Context, type_by, one_type, type_of, needs, needs_of_all, variable_type, variable_type_in}
-use Rattle.body_code.specs.Early.{Assigned, is_in, if_early, early_after, early, assigned_step, assigned_in, to_target, all_of, of_second}
-use Rattle.body_code.specs.ClassCode.{var_type_by, start_code, start_of, set_at_start, started}
+use Rattle.body_code.specs.Early.{Assigned, is_in, if_early, early_after, assigned_step, assigned_in, to_target, all_of}
+use Rattle.body_code.specs.ClassCode.{var_type_by, start_code, start_of, set_at_start}
 use Rattle.body_code.specs.Checking.{Surroundings, Standing, Around, Checking, with_known, is_type, met, takes, checked_step, checked, checked_list}
 use Rattle.body_code.specs.Checking as checking
 use Rattle.code_meaning.specs.Laid.{IsLaid, frame, Leads}
@@ -35,7 +35,7 @@ use Rattle.code_meaning.specs.Running.{all_plain, plain_step, is_plain}
 use Rattle.code_meaning.proofs.Lists.{none_some, some_is, both_true, get_within, get_set, get_set_other, length_set, same_or_not}
 use Rattle.code_meaning.proofs.Running.{laid_parts, one_step, stays, leads_on, leads_to}
 use Rattle.code_meaning.proofs.Growing.{next_is, if_so_is, if_then}
-use Rattle.code_meaning.proofs.Agreeing.{is_type_is, in_more, variable_within}
+use Rattle.code_meaning.proofs.Agreeing.{is_type_is, in_more}
 use Rattle.code_meaning.proofs.Plain.{met_is, compound_is}
 use Rattle.code_meaning.proofs.Foreseen.{passing_is}
 

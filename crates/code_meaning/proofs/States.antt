@@ -1,6 +1,5 @@
 -- A call of a state's method gives a value of the method's type, and the state stays of its class.
-use Rattle.std.proofs.Common.{◌≡◌, ◌≢◌, refl, sym, ap, ◌∙◌, ℕ, ℤ, pos, int_lt, Bool, true, false, cond, List, [], ◌∷◌, map, unsigned_abs, Option, Some, None}
-use Rattle.sdg_base.specs.declared.store.ClassName.{ClassName}
+use Rattle.std.proofs.Common.{◌≡◌, refl, ℤ, pos, int_lt, Bool, true, false, cond, List, [], ◌∷◌, map, unsigned_abs, Option, Some, None}
 use Rattle.sdg_base.specs.declared.store.ClassName.TheVariants as class_name
 use Rattle.sdg_base.specs.declared.val.Exn.TheVariants.{Index, NegativeSize}
 use Rattle.sdg_base.specs.declared.val.Outcome.{Outcome}

@@ -1,5 +1,5 @@
 -- The values of operators and casts are of the types that the operators give.
-use Rattle.std.proofs.Common.{◌≡◌, ◌≢◌, refl, sym, ap, ◌∙◌, ℕ, ◌/◌, ◌^◌, ℤ, pos, ◌+ℤ◌, ◌-ℤ◌, ◌*ℤ◌, neg_ℤ, int_div, bit_and, bit_or, bit_xor, ◌&&◌, ◌||◌, Bool, true, false, cond, List, [], ◌∷◌, map, Option, Some, None, Result, Ok, Err, IsTrue}
+use Rattle.std.proofs.Common.{◌≡◌, refl, ap, ◌∙◌, ℕ, ◌/◌, ◌^◌, ℤ, pos, ◌+ℤ◌, ◌-ℤ◌, ◌*ℤ◌, neg_ℤ, int_div, bit_and, bit_or, bit_xor, ◌&&◌, ◌||◌, Bool, true, false, cond, List, [], ◌∷◌, Option, Some, None, Result, Ok, Err}
 use Rattle.std.specs.Ordering.{int_eq}
 use Rattle.std.proofs.lemmas.Bool.{false≢true}
 use Rattle.sdg_base.specs.declared.operator.BinOp.{BinOp}
@@ -14,7 +14,7 @@ use Rattle.sdg_base.specs.declared.val.Val.{Val}
 use Rattle.sdg_base.specs.declared.val.Val.TheVariants as val
 use Rattle.sdg_base.specs.declared.value_type.ValueType.{ValueType}
 use Rattle.sdg_base.specs.declared.value_type.ValueType.TheVariants as type
-use Rattle.sdg_base.specs.Operations.{operation, unary_operation, converted, on_numbers, on_shift, on_booleans, on_alike, on_number, on_boolean, computed, divided, compared, of_number, unequal}
+use Rattle.sdg_base.specs.Operations.{operation, unary_operation, on_numbers, on_shift, on_booleans, on_alike, on_number, on_boolean, computed, divided, compared, of_number, unequal}
 use Rattle.sdg_base.specs.Arithmetic.{digits, wrap, remainder, floor_shift, from_digits, by_digits, inverted}
 use Rattle.sdg_base.specs.Types.{type_of, type_named, binary_type, unary_type, arithmetic_type, shift_type, order_type, equality_type, bitwise_type, condition_type, number_type, boolean_type}
 use Rattle.flat_code.specs.Types.{same_type, same_types}

@@ -3,3 +3,4 @@ pub mod Evaluating
 pub mod Running
 pub mod Foreseen
 pub mod Calling
+pub mod Cutting

@@ -1,3 +1,4 @@
+use Rattle.code_meaning.proofs.Cutting.{marks_are_cuts}
 use Rattle.code_meaning.proofs.Calling.{calls_mean_their_code}
 use Rattle.code_meaning.proofs.Expressions.{expressions_give_their_values}
 use Rattle.code_meaning.proofs.Foreseen.{completions_are_foreseen}
@@ -19,3 +20,6 @@ returns-clause-completions c = completions_are_foreseen
 
 pub returns-clause-calls : goal.returns-clause-calls
 returns-clause-calls c = calls_mean_their_code
+
+pub returns-clause-marks : goal.returns-clause-marks
+returns-clause-marks c = marks_are_cuts
