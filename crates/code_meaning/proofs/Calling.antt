@@ -41,12 +41,13 @@ use Rattle.body_code.specs.Checking.{surroundings, at_start, known_parameters, I
 use Rattle.code_meaning.specs.Laid.{IsLaid, frame, Leads, EndsSo}
 use Rattle.code_meaning.specs.Evaluating.{IsValue, AreOf, HasSame, CallAgrees, HelperAgrees, CallsAgree}
 use Rattle.code_meaning.specs.Running.{Ground, IsGround, Agrees, Completes, all_plain, is_plain}
-use Rattle.code_meaning.specs.Calling.{OnlyEntriesHaveBlocks, CallsMeanTheirCode}
+use Rattle.code_meaning.specs.Calling.{CallsMeanTheirCode}
 use Rattle.code_meaning.proofs.Lists.{none_some, some_is}
 use Rattle.code_meaning.proofs.Running.{laid_parts, more_fuel, one_end, leads_to, ends_on, stops_on, ends_wider, stops_wider}
 use Rattle.code_meaning.proofs.Operands.{variable_value}
 use Rattle.code_meaning.proofs.PieceSizes.{pieces_sized}
 use Rattle.code_meaning.proofs.Plain.{statements_right}
+use Rattle.code_meaning.proofs.NoBlocks.{body_plain}
 use Rattle.code_meaning.proofs.Foreseen.{list_foreseen}
 use Rattle.code_meaning.proofs.Starting.{IsEarly, StartsThere, IsSet, list_typed, early_typed, in_there, sets_all}
 
@@ -399,7 +400,7 @@ helper_no_entry kind is e = cc
 merge_no_entry : (kind : MethodKind) → kind ≡ Merge → kind ≢ Entry
 merge_no_entry kind is e = cc
 
-module _ (class : Class) (program : Program) (typed : IsTyped class program) (only : OnlyEntriesHaveBlocks program) where
+module _ (class : Class) (program : Program) (typed : IsTyped class program) where
   abbrev cs : List Callee
   cs = code.callees_of class program
 
@@ -469,7 +470,7 @@ module _ (class : Class) (program : Program) (typed : IsTyped class program) (on
       let there = graph_at fields cs ms program.methods 0 n m b im ib in
       subst (λ x. CallAgrees (result_type m.result) turns x (machine.calls_within (suc e) fields gms n args gathered turns)) (sym (ap (λ o. ran (source.calls_within d program.methods) o args gathered turns) ib))
       (subst (λ y. CallAgrees (result_type m.result) turns (result_of (meanings (source.calls_within d program.methods) b.statements (machine_at_start b args gathered turns []))) y) (sym (within_same e n (graph_method fields cs m b there.0) args gathered turns there.1))
-      (body_gives program.fields cs fields gms (source.calls_within d program.methods) (machine.calls_within e fields gms) turns (calls_agree d e turns ld le) m b there.0 (typed.bodies n m b im ib) no (only n b ib no) args gathered many arguments members)))
+      (body_gives program.fields cs fields gms (source.calls_within d program.methods) (machine.calls_within e fields gms) turns (calls_agree d e turns ld le) m b there.0 (typed.bodies n m b im ib) no (body_plain (surroundings program.fields cs m b) no b.statements None (at_start b) (typed.bodies n m b im ib).after (typed.bodies n m b im ib).checked) args gathered many arguments members)))
 
 pub calls_mean_their_code : CallsMeanTheirCode
-calls_mean_their_code class program typed only = calls_agree class program typed only turns_at_start turns_at_start turns_at_start (omega arith) (omega arith)
+calls_mean_their_code class program typed = calls_agree class program typed turns_at_start turns_at_start turns_at_start (omega arith) (omega arith)

@@ -27,7 +27,7 @@ use Rattle.code_meaning.specs.Running.{all_plain, plain_step, is_plain}
 use Rattle.code_meaning.specs.Foreseen.{IsForeseen, CompletionsAreForeseen}
 use Rattle.code_meaning.proofs.Lists.{none_some, some_is, both_true}
 use Rattle.code_meaning.proofs.Growing.{next_is, if_so_is, if_then}
-use Rattle.code_meaning.proofs.Plain.{met_is, compound_is, ends_as_is, each_bool}
+use Rattle.code_meaning.proofs.Plain.{opened_is as opened_as, met_is, compound_is, ends_as_is, each_bool}
 use Rattle.code_meaning.proofs.Leaving.{constant_value}
 
 opened_is : (st : Standing) (o : Option Standing) (end : Standing) → opened st o ≡ Some end → (a : Standing) × (o ≡ Some a)
@@ -341,7 +341,9 @@ module _ (around : Surroundings) (calls : Calls) where
       (λ loop st end is out m. absurd (no_access a (checking.signature_of around a.field a.method) st end is out)))
   layer_right (s.Gather a) plain = absurd (false≢true plain)
   layer_right (s.Marked mark body) plain = absurd (false≢true plain)
-  layer_right (s.Opened body) plain = absurd (false≢true plain)
+  layer_right (s.Opened body) plain =
+      ((λ loop st end is out. let k = opened_as st (checked around body.0 loop (outside st)) end is in same_keeps (outside st) end k.2 refl),
+      (λ loop st end is out m. let k = opened_as st (checked around body.0 loop (outside st)) end is in (body.1 plain).1 loop (outside st) k.0 k.1 refl m))
   layer_right (s.Block items) plain =
       let xs = map (λ (x : Part). x.0) items in
       let h = list_right items plain in

@@ -17,5 +17,6 @@ mod Plain
 mod Leaving
 mod Foreseen
 mod Starting
+mod NoBlocks
 mod Calling
 mod Cutting

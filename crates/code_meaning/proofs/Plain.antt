@@ -26,7 +26,7 @@ use Rattle.code_meaning.proofs.Lists.{none_some, some_is, both_true}
 use Rattle.code_meaning.proofs.Running.{laid_two, one_step, leads_to}
 use Rattle.code_meaning.proofs.Evaluations.{boolean_cases}
 use Rattle.code_meaning.proofs.Sizes.{code_sized}
-use Rattle.code_meaning.proofs.Agreeing.{Below, same_number_is, same_value_is, covers_below, agrees_fewer}
+use Rattle.code_meaning.proofs.Agreeing.{agrees_below, Below, same_number_is, same_value_is, covers_below, agrees_fewer}
 use Rattle.code_meaning.proofs.Completing.{completes_on, completes_wider, completes_to, completes_below, after_goes, completes_already, value_goes, completes_jump}
 use Rattle.code_meaning.proofs.PieceSizes.{guarded_sized, piece_sized, pieces_sized}
 use Rattle.code_meaning.proofs.Growing.{Grows, AllGrow, if_so_is, if_then, next_is, checked_grows, list_checked_grows}
@@ -64,6 +64,10 @@ met_is st None p end is = absurd (none_some end is)
 pub compound_is : (st : Standing) (o : Option Standing) (end : Standing) → compound st o ≡ Some end → (a : Standing) × (o ≡ Some a) × (after_compound st a ≡ end)
 compound_is st None end is = absurd (none_some end is)
 compound_is st (Some a) end is = (a, refl, some_is (after_compound st a) end is)
+
+pub opened_is : (st : Standing) (o : Option Standing) (end : Standing) → checking.opened st o ≡ Some end → (a : Standing) × (o ≡ Some a) × (checking.outside st ≡ end)
+opened_is st None end is = absurd (none_some end is)
+opened_is st (Some a) end is = (a, refl, some_is (checking.outside st) end is)
 
 pub ends_as_is : (need : Standing) (o : Option Standing) → ends_as need o ≡ true → (a : Standing) × (o ≡ Some a) × Below a need
 ends_as_is need None is = absurd (false≢true is)
@@ -181,6 +185,14 @@ module _ {g : Ground} (ground : IsGround g) where
       subst (λ z. Completes g loop exits a.size (frame p.at [] variables m.turns) state (p.at + a.size) z (run m)) k.2
       (completes_below (compound_below st k.0 (grows loop st k.0 k.1)) (does loop st k.0 p exits k.1 laid variables state m h))
 
+  pub opened_does : (check : Checking) (a : Piece) (run : Running) → AllGrow check → Does ground check a run → Does ground (λ loop st. checking.opened st (check loop (checking.outside st))) a run
+  opened_does check a run grows does loop st end p exits is laid variables state m h =
+      let k = opened_is st (check loop (checking.outside st)) end is in
+      let in_it : Below st (checking.outside st) = record { known = λ v z. z; field = λ f z. absurd (none_some f z); gathered = λ t z. absurd (none_some t z) } in
+      let behind : Below k.0 (checking.outside st) = record { known = grows loop (checking.outside st) k.0 k.1; field = λ f z. absurd (none_some f z); gathered = λ t z. absurd (none_some t z) } in
+      subst (λ z. Completes g loop exits a.size (frame p.at [] variables m.turns) state (p.at + a.size) z (run m)) k.2
+      (completes_below behind (does loop (checking.outside st) k.0 p exits k.1 laid variables state m (agrees_below in_it h)))
+
   -- ---- all statements without marks
 
   abbrev IsRight : Statement → Type 0
@@ -226,7 +238,7 @@ module _ {g : Ground} (ground : IsGround g) where
   layer_right (s.Access a) plain = access_does ground a
   layer_right (s.Gather a) plain = absurd (false≢true plain)
   layer_right (s.Marked mark body) plain = absurd (false≢true plain)
-  layer_right (s.Opened body) plain = absurd (false≢true plain)
+  layer_right (s.Opened body) plain = opened_does (checked g.around body.0) (piece_of (scope_on g) body.0) (meaning g.calls body.0) (checked_grows g.around body.0) (body.1 plain)
   layer_right (s.Block items) plain =
       compound_does (checked_list g.around (map (λ (x : Part). x.0) items)) (pieces_of (scope_on g) (map (λ (x : Part). x.0) items)) (meanings g.calls (map (λ (x : Part). x.0) items)) (list_checked_grows g.around (map (λ (x : Part). x.0) items)) (list_right items plain)
   layer_right (s.If test first None) plain =

@@ -36,7 +36,7 @@ use Rattle.code_meaning.proofs.Lists.{none_some, some_is, both_true, get_within,
 use Rattle.code_meaning.proofs.Running.{laid_parts, one_step, stays, leads_on, leads_to}
 use Rattle.code_meaning.proofs.Growing.{next_is, if_so_is, if_then}
 use Rattle.code_meaning.proofs.Agreeing.{is_type_is, in_more}
-use Rattle.code_meaning.proofs.Plain.{met_is, compound_is}
+use Rattle.code_meaning.proofs.Plain.{opened_is, met_is, compound_is}
 use Rattle.code_meaning.proofs.Foreseen.{passing_is}
 
 -- ---- what is assigned is typed
@@ -106,7 +106,7 @@ module _ (around : Surroundings) where
   layer_right (s.Access a) plain loop st end is = access_typed around a (checking.signature_of around a.field a.method) st end is
   layer_right (s.Gather a) plain loop st end is = absurd (false≢true plain)
   layer_right (s.Marked mark body) plain loop st end is = absurd (false≢true plain)
-  layer_right (s.Opened body) plain loop st end is = absurd (false≢true plain)
+  layer_right (s.Opened body) plain loop st end is = let k = opened_is st (checked around body.0 loop (checking.outside st)) end is in body.1 plain loop (checking.outside st) k.0 k.1
   layer_right (s.Block items) plain loop st end is =
       let k = compound_is st (checked_list around (map (λ (x : Part). x.0) items) loop st) end is in list_right items plain loop st k.0 k.1
   layer_right (s.If test first None) plain loop st end is =

@@ -143,13 +143,13 @@ all_plain (b ∷ bs) = b && all_plain bs
 abbrev pub plain_step : Statement-F Bool → Bool
 plain_step (s.Gather g) = false
 plain_step (s.Marked mark body) = false
-plain_step (s.Opened body) = false
+plain_step (s.Opened body) = body
 plain_step (s.Block items) = all_plain items
 plain_step (s.If test first second) = first && in_second second
 plain_step (s.Loop start test update body) = all_plain start && (body && all_plain update)
 plain_step _ = true
 
--- no block begins in it
+-- No block begins in it, and none of the fields' instances are visited.
 abbrev pub is_plain : Statement → Bool
 is_plain = fold-Statement Bool plain_step
 
