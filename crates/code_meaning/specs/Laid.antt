@@ -4,7 +4,7 @@ use Rattle.sdg_base.specs.declared.val.Val.{Val}
 use Rattle.sdg_base.specs.declared.val.Outcome.{Outcome}
 use Rattle.state_classes.specs.States.{State}
 use Rattle.flat_code.specs.declared.graph.Instr.{Instr}
-use Rattle.flat_code.specs.Machine.{Setting, Frame, Ending, Stopped, run_within}
+use Rattle.flat_code.specs.Machine.{Setting, Frame, Ending, Stopped, Ran, run_within}
 use Rattle.body_code.specs.Codes.{Code}
 use Rattle.body_code.specs.StatementCode.{Place, Exits, Piece}
 
@@ -40,3 +40,8 @@ pub record EndsSo (s : Setting) (code : List Instr) (size : ℕ) (f : Frame) (st
 pub record Stops (s : Setting) (code : List Instr) (size : ℕ) (f : Frame) (state : State) (how : Outcome) (next : State) : Type 0 where
   pub last : Frame
   pub ends : EndsSo s code size f state (Stopped how) last next
+
+-- A run that has ended ends so with more fuel.
+abbrev pub MoreFuelIsTheSame : Type 0
+MoreFuelIsTheSame =
+    (s : Setting) (code : List Instr) (n m : ℕ) → n ≤ m → (f : Frame) (state : State) (r : Ran) → run_within n s code f state ≡ Some r → run_within m s code f state ≡ Some r

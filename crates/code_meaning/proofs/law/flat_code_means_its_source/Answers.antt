@@ -1,3 +1,4 @@
+use Rattle.code_meaning.proofs.Running.{more_fuel}
 use Rattle.code_meaning.proofs.Cutting.{marks_are_cuts}
 use Rattle.code_meaning.proofs.Calling.{calls_mean_their_code}
 use Rattle.code_meaning.proofs.Expressions.{expressions_give_their_values}
@@ -23,3 +24,6 @@ returns-clause-calls c = calls_mean_their_code
 
 pub returns-clause-marks : goal.returns-clause-marks
 returns-clause-marks c = marks_are_cuts
+
+pub returns-clause-fuel : goal.returns-clause-fuel
+returns-clause-fuel c = more_fuel
