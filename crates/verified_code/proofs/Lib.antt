@@ -1,2 +1,5 @@
 mod Labels
 mod Making
+mod Typed
+mod Needed
+mod Expressions

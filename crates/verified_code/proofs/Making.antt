@@ -7,7 +7,7 @@ use Rattle.flat_code.specs.declared.graph.Instr.TheVariants as instr
 use Rattle.flat_code.specs.Ways.{IsIn, IsFirst, IsLater, next_of, next_in_task, reads, writes}
 use Rattle.flat_code.specs.Verified.{Stack, types_after, is_of_entry, is_of_merge, IsJumpTo}
 use Rattle.body_code.specs.Checking.{Standing}
-use Rattle.verified_code.proofs.Labels.{Behind, Anything, Label, label, Setting, Knows, MayRead, Stays, stays_on, Eases, eases_on, same_eases, Own, Takes, Suits, OfKind, Right, Good, Agrees, good_both, agrees_left, agrees_right, Begins, begins_with, joined, Made}
+use Rattle.verified_code.proofs.Labels.{Behind, Anything, Turning, Label, label, Setting, Knows, MayRead, Stays, stays_on, Eases, eases_on, same_eases, Own, Takes, Suits, OfKind, Right, Good, Agrees, good_both, agrees_left, agrees_right, Begins, begins_with, joined, Made}
 
 -- ---- ways on
 
@@ -41,15 +41,15 @@ jump_is_next at _ next j = absurd j
 -- ---- one instruction
 
 -- what is said of a place behind an instruction, by what holds before it
-pub record Follows (s : Setting) (i : Instr) (l e : Label) : Type 0 where
+pub record Follows (s : Setting) (at : ℕ) (i : Instr) (l e : Label) : Type 0 where
   pub falls : e.rank < l.rank
   pub knows : (v : ℕ) → Knows e.standing v → Knows l.standing v ⊎ (writes i ≡ Some v)
   pub may_read : (v : ℕ) → IsIn v (reads i) → MayRead s l.standing v
-  pub stays : Stays l e
+  pub stays : (next : ℕ) → IsIn next (next_in_task at i) → Stays l e
   pub takes : Takes s i l.stack e.stack
   pub kind : OfKind s i
 
-pub right_by : (s : Setting) (lab : ℕ → Label) (at : ℕ) (i : Instr) (l e : Label) → lab at ≡ l → Follows s i l e → ((next : ℕ) → IsIn next (next_of at i) → Eases e (lab next))
+pub right_by : (s : Setting) (lab : ℕ → Label) (at : ℕ) (i : Instr) (l e : Label) → lab at ≡ l → Follows s at i l e → ((next : ℕ) → IsIn next (next_of at i) → Eases e (lab next))
     → Own s lab at i → (lab (suc at)).behind ≡ Anything → Right s lab at i
 right_by s lab at i l e is f goes own behind =
     let back : l ≡ lab at = sym is in
@@ -62,14 +62,14 @@ right_by s lab at i l e is f goes own behind =
       knows = λ next h v known. subst (λ (x : Label). Knows x.standing v ⊎ (writes i ≡ Some v)) back (f.knows v ((goes next h).known v known));
       may_read = λ v h. subst (λ (x : Label). MayRead s x.standing v) back (f.may_read v h);
       jumps = λ next j. (goes next (jump_is_next at i next j)).behind;
-      stays = λ next h. subst (λ (x : Label). Stays x (lab next)) back (stays_on f.stays (goes next (next_is at i next h)).stays);
+      stays = λ next h. subst (λ (x : Label). Stays x (lab next)) back (stays_on (f.stays next h) (goes next (next_is at i next h)).stays);
       own = own;
       suits = subst (λ (b : Behind). Suits i b) (sym behind) tt;
       kind = f.kind;
     }
 
 -- an instruction that goes on to the next one alone
-pub one : (s : Setting) (Out : (ℕ → Label) → Type 0) (at : ℕ) (i : Instr) (st : Standing) (stack : Stack) (e : Label) → next_of at i ≡ suc at ∷ [] → Follows s i (label st stack (suc e.rank)) e
+pub one : (s : Setting) (Out : (ℕ → Label) → Type 0) (at : ℕ) (i : Instr) (st : Standing) (stack : Stack) (e : Label) → next_of at i ≡ suc at ∷ [] → Follows s at i (label st stack (suc e.rank)) e
     → ((lab : ℕ → Label) → lab at ≡ label st stack (suc e.rank) → Own s lab at i) → Made s Out at (i ∷ []) st stack e
 one s Out at i st stack e straight f own = record {
   rank = suc e.rank;
@@ -98,7 +98,7 @@ last s Out at i st stack after e ends takes may_read kind own = record {
     (let here : end ≡ suc at = omega (arith, end_is) in
     let behind : Eases e (lab (suc at)) = subst (λ (n : ℕ). Eases e (lab n)) here eases in
     (right_by s lab at i (label st stack (suc e.rank)) (label st after e.rank) agrees.0
-      (record { falls = omega arith; knows = λ v h. inl h; may_read = may_read; stays = record { field = inr refl; gathered = inr refl; visit = refl }; takes = takes; kind = kind })
+      (record { falls = omega arith; knows = λ v h. inl h; may_read = may_read; stays = λ next h. record { field = inr refl; gathered = inr refl; visit = refl }; takes = takes; kind = kind })
       (λ next h. absurd (in_none next (subst (λ (ns : List ℕ). IsIn next ns) ends h)))
       (own lab agrees.0) behind.behind, tt));
 }
@@ -178,7 +178,7 @@ pub jump : (s : Setting) (lab : ℕ → Label) (at to : ℕ) (st : Standing) (st
     → Right s lab at (instr.Jump to)
 jump s lab at to st stack rank is goes behind =
     right_by s lab at (instr.Jump to) (label st stack (suc rank)) (label st stack rank) is
-    (record { falls = omega arith; knows = λ v h. inl h; may_read = λ v h. absurd (in_none v h); stays = record { field = inr refl; gathered = inr refl; visit = refl }; takes = refl; kind = plain_kind s (instr.Jump to) refl refl })
+    (record { falls = omega arith; knows = λ v h. inl h; may_read = λ v h. absurd (in_none v h); stays = λ next h. record { field = inr refl; gathered = inr refl; visit = refl }; takes = refl; kind = plain_kind s (instr.Jump to) refl refl })
     (λ next h. subst (λ (n : ℕ). Eases (label st stack rank) (lab n)) (sym (only_one next to h)) goes)
     (ap (λ (l : Label). l.visit) is) behind
 
@@ -186,7 +186,7 @@ pub test : (s : Setting) (lab : ℕ → Label) (at to : ℕ) (st : Standing) (st
     → Right s lab at (instr.IfFalse to)
 test s lab at to st stack rank is on goes =
     right_by s lab at (instr.IfFalse to) (label st (type.Boolean ∷ stack) (suc rank)) (label st stack rank) is
-    (record { falls = omega arith; knows = λ v h. inl h; may_read = λ v h. absurd (in_none v h); stays = record { field = inr refl; gathered = inr refl; visit = refl }; takes = refl; kind = plain_kind s (instr.IfFalse to) refl refl })
+    (record { falls = omega arith; knows = λ v h. inl h; may_read = λ v h. absurd (in_none v h); stays = λ next h. record { field = inr refl; gathered = inr refl; visit = refl }; takes = refl; kind = plain_kind s (instr.IfFalse to) refl refl })
     (λ next h. elim (one_or_other next (suc at) to h) [
       | inl e ↦ subst (λ (n : ℕ). Eases (label st stack rank) (lab n)) (sym e) on
       | inr e ↦ subst (λ (n : ℕ). Eases (label st stack rank) (lab n)) (sym e) goes
@@ -228,4 +228,44 @@ if_else s Out at k other end xs ys st after stack left r k_is other_is end_of a 
         let code_jump : Right s lab from (instr.Jump end) = jump s lab from end after left r behind.0 goes (subst (λ (n : ℕ). (lab n).behind ≡ Anything) other_is enters_b.behind) in
         let code_rest : Good s lab k (xs ++ (instr.Jump end ∷ ys)) = good_both s lab k from xs (instr.Jump end ∷ ys) refl code_a (code_jump, subst (λ (n : ℕ). Good s lab n ys) other_is code_b) in
         (test s lab at other st stack (a.rank + b.rank) agrees.0 on over, subst (λ (n : ℕ). Good s lab n (xs ++ (instr.Jump end ∷ ys))) k_is code_rest));
+    }
+
+-- ---- behind a turn
+
+abbrev pub turning : Standing → Stack → ℕ → Label
+turning st stack rank = record { stack = stack; standing = st; visit = None; behind = Turning; rank = rank }
+
+-- a turn and an instruction that goes on to the next one alone
+pub turned : (s : Setting) (Out : (ℕ → Label) → Type 0) (at : ℕ) (i : Instr) (st : Standing) (stack : Stack) (e : Label) → next_of (suc at) i ≡ suc (suc at) ∷ [] → Follows s (suc at) i (turning st stack (suc e.rank)) e
+    → ((lab : ℕ → Label) → lab (suc at) ≡ turning st stack (suc e.rank) → Eases e (lab (suc (suc at))) → Own s lab (suc at) i) → Made s Out at (instr.Turn ∷ i ∷ []) st stack e
+turned s Out at i st stack e straight f own =
+    let first = label st stack (suc e.rank) in
+    let second = turning st stack (suc e.rank) in
+    record {
+      rank = suc e.rank;
+      above = omega arith;
+      labels = first ∷ second ∷ [];
+      long = refl;
+      begins = same_eases st stack (suc e.rank) (suc e.rank) (omega arith);
+      good = λ lab end end_is agrees eases out.
+        (let here : end ≡ suc (suc at) = omega (arith, end_is) in
+        let behind : Eases e (lab (suc (suc at))) = subst (λ (n : ℕ). Eases e (lab n)) here eases in
+        let to : (next : ℕ) → IsIn next (suc at ∷ []) → second ≡ lab next = (λ next h. sym (subst (λ (n : ℕ). lab n ≡ second) (sym (only_one next (suc at) h)) agrees.1.0)) in
+        let from : first ≡ lab at = sym agrees.0 in
+        let turn : Right s lab at instr.Turn = record {
+          after = stack;
+          takes = subst (λ (x : Label). Takes s instr.Turn x.stack stack) from refl;
+          stacks = λ next h. subst (λ (x : Label). x.stack ≡ stack) (to next h) refl;
+          ranks = λ next h no_turn. absurd (no_turn refl);
+          knows = λ next h v known. inl (subst (λ (x : Label). Knows x.standing v) from (subst (λ (x : Label). Knows x.standing v) (sym (to next h)) known));
+          may_read = λ v h. absurd (in_none v h);
+          jumps = λ next j. absurd j;
+          stays = λ next h. subst (λ (x : Label). Stays x (lab next)) from (subst (λ (x : Label). Stays first x) (to next h) (record { field = inr refl; gathered = inr refl; visit = refl }));
+          own = ap (λ (l : Label). l.visit) agrees.0;
+          suits = subst (λ (x : Label). Suits instr.Turn x.behind) (sym agrees.1.0) refl;
+          kind = plain_kind s instr.Turn refl refl;
+        } in
+        (turn, (right_by s lab (suc at) i second e agrees.1.0 f
+          (λ next h. subst (λ (n : ℕ). Eases e (lab n)) (sym (only_one next (suc (suc at)) (subst (λ (ns : List ℕ). IsIn next ns) straight h))) behind)
+          (own lab agrees.1.0 behind) behind.behind, tt)));
     }
