@@ -220,3 +220,173 @@ module _ (s : Setting) (fit : Fitting s) where
   all_made [] (t ∷ ts) ns h st proper met us is at stack r = absurd h
   all_made (c ∷ cs) [] ns h st proper met us is at stack r = absurd h
   all_made (c ∷ cs) (t ∷ ts) [] h st proper met us is at stack r = absurd h
+
+  -- ---- what an expression gives
+
+  giving : (at : ℕ) (code : List Instr) (st : Standing) (stack : Stack) (r : ℕ) (u t : ValueType) → u ≡ t → Made s Anywhere at code st stack (label st (on_top u stack) r) → Made s Anywhere at code st stack (label st (on_top t stack) r)
+  giving at code st stack r u t e h = subst (λ (w : ValueType). Made s Anywhere at code st stack (label st (on_top w stack) r)) e h
+
+  constant : (i : Instr) (u : ValueType) (n : Needs) → ((at : ℕ) → next_of at i ≡ suc at ∷ []) → ((stack : Stack) → Takes s i stack (on_top u stack)) → ((v : ℕ) → IsIn v (reads i) → ⊥) → OfKind s i
+      → ((lab : ℕ → Label) (at : ℕ) → (lab at).visit ≡ None → Own s lab at i) → Coded s (plain (i ∷ [])) (Some u) n
+  constant i u n straight takes nothing kind own = record {
+    long = λ at. refl;
+    made = λ st proper met t is at stack r. giving at (i ∷ []) st stack r u t (some_is u t is)
+      (simple at i st stack (on_top u stack) r (straight at) (takes stack) (λ v h. absurd (nothing v h)) kind (λ lab here. own lab at (plainly lab at st stack (suc r) here)));
+  }
+
+  -- an instruction on the value of an operand
+  operand : (code : Code) (T U : Option ValueType) (n : Needs) (i : Instr) → Coded s code T n → ((at : ℕ) → next_of at i ≡ suc at ∷ [])
+      → ((t : ValueType) → U ≡ Some t → (a : ValueType) × (T ≡ Some a) × ((stack : Stack) → Takes s i (on_top a stack) (on_top t stack)))
+      → ((st : Standing) → IsMet s.around st n → (v : ℕ) → IsIn v (reads i) → MayRead s st v) → ((t : ValueType) → U ≡ Some t → OfKind s i) → ((lab : ℕ → Label) (at : ℕ) → (lab at).visit ≡ None → Own s lab at i)
+      → Coded s (behind code i) U n
+  operand code T U n i a straight typed may_read kind own = record {
+    long = long_behind code i a.long;
+    made = λ st proper met t is at stack r.
+      (let k = typed t is in
+      on at (at + code.size) (code.from at) i st stack (on_top k.0 stack) (on_top t stack) r (behind_place code a.long at) (λ q. a.made st proper met k.0 k.1 at stack q)
+        (simple (at + code.size) i st (on_top k.0 stack) (on_top t stack) r (straight (at + code.size)) (k.2 stack) (may_read st met) (kind t is) (λ lab here. own lab (at + code.size) (plainly lab (at + code.size) st (on_top k.0 stack) (suc r) here))));
+  }
+
+  unary_coded : (op : UnOp) (code : Code) (T : Option ValueType) (n : Needs) → Coded s code T n → Coded s (unary op code) (of_one (unary_type op) T) n
+  unary_coded un.Plus code T n a = record {
+    long = a.long;
+    made = λ st proper met t is at stack r. (let k = one_is (unary_type un.Plus) T t is in giving at (code.from at) st stack r k.0 t (plus_same k.0 t k.2) (a.made st proper met k.0 k.1 at stack r));
+  }
+  unary_coded un.Minus code T n a =
+      operand code T (of_one (unary_type un.Minus) T) n (instr.Un un.Minus) a (λ at. refl) (λ t is. (let k = one_is (unary_type un.Minus) T t is in (k.0, k.1, λ stack. unary_after s.graph s.of un.Minus k.0 t stack k.2)))
+      (λ st met v h. absurd (in_none v h)) (λ t is. making.plain s (instr.Un un.Minus) refl refl) (λ lab at p. p)
+  unary_coded un.Complement code T n a =
+      operand code T (of_one (unary_type un.Complement) T) n (instr.Un un.Complement) a (λ at. refl) (λ t is. (let k = one_is (unary_type un.Complement) T t is in (k.0, k.1, λ stack. unary_after s.graph s.of un.Complement k.0 t stack k.2)))
+      (λ st met v h. absurd (in_none v h)) (λ t is. making.plain s (instr.Un un.Complement) refl refl) (λ lab at p. p)
+  unary_coded un.Not code T n a =
+      operand code T (of_one (unary_type un.Not) T) n (instr.Un un.Not) a (λ at. refl) (λ t is. (let k = one_is (unary_type un.Not) T t is in (k.0, k.1, λ stack. unary_after s.graph s.of un.Not k.0 t stack k.2)))
+      (λ st met v h. absurd (in_none v h)) (λ t is. making.plain s (instr.Un un.Not) refl refl) (λ lab at p. p)
+
+  -- ---- one of two
+
+  pub either_long : (x y : Code) → ((at : ℕ) → length (x.from at) ≡ x.size) → ((at : ℕ) → length (y.from at) ≡ y.size) → (at : ℕ) → length ((either x y).from at) ≡ (either x y).size
+  either_long x y long_x long_y at =
+      let e = long_x (at + 1) in
+      let f = long_y (at + x.size + 2) in
+      let many = length-append (x.from (at + 1)) (instr.Jump (at + x.size + y.size + 2) ∷ y.from (at + x.size + 2)) in
+      omega (arith, e, f, many)
+
+  either_made : (x y : Code) → ((at : ℕ) → length (x.from at) ≡ x.size) → ((at : ℕ) → length (y.from at) ≡ y.size) → (st : Standing) (stack left : Stack)
+      → ((at q : ℕ) → Made s Anywhere at (x.from at) st stack (label st left q)) → ((at q : ℕ) → Made s Anywhere at (y.from at) st stack (label st left q))
+      → (k r : ℕ) → Made s Anywhere k ((either x y).from k) st (type.Boolean ∷ stack) (label st left r)
+  either_made x y long_x long_y st stack left first second k r =
+      let e = long_x (k + 1) in
+      let f = long_y (k + x.size + 2) in
+      if_else s Anywhere k (k + 1) (k + x.size + 2) (k + x.size + y.size + 2) (x.from (k + 1)) (y.from (k + x.size + 2)) st st stack left r (omega arith) (omega (arith, e)) (omega (arith, f))
+        (first (k + 1) (suc r)) (second (k + x.size + 2) r)
+
+  pub false_code : Code
+  false_code = plain (instr.Bool false ∷ [])
+
+  boolean_made : (b : Bool) (st : Standing) (stack : Stack) (at q : ℕ) → Made s Anywhere at ((plain (instr.Bool b ∷ [])).from at) st stack (label st (type.Boolean ∷ stack) q)
+  boolean_made b st stack at q = simple at (instr.Bool b) st stack (type.Boolean ∷ stack) q refl refl (reads_nothing st) (making.plain s (instr.Bool b) refl refl) (λ lab here. plainly lab at st stack (suc q) here)
+
+  condition : (test x y : Code) (T : Option ValueType) (n : Needs) → Coded s test T n → T ≡ Some type.Boolean → ((at : ℕ) → length (x.from at) ≡ x.size) → ((at : ℕ) → length (y.from at) ≡ y.size)
+      → (st : Standing) (stack left : Stack) → Proper s st → IsMet s.around st n → ((at q : ℕ) → Made s Anywhere at (x.from at) st stack (label st left q)) → ((at q : ℕ) → Made s Anywhere at (y.from at) st stack (label st left q))
+      → (at r : ℕ) → Made s Anywhere at ((followed_by test (either x y)).from at) st stack (label st left r)
+  condition test x y T n a is long_x long_y st stack left proper met first second at r =
+      two at (at + test.size) (test.from at) ((either x y).from (at + test.size)) st stack (type.Boolean ∷ stack) left r (behind_place test a.long at)
+        (λ q. a.made st proper met type.Boolean is at stack q) (either_made x y long_x long_y st stack left first second (at + test.size) r)
+
+  -- ---- two operands
+
+  abbrev TwoCoded : BinOp → Lowered → Lowered → Option ValueType → Option ValueType → Needs → Needs → Type 0
+  TwoCoded op a b T U m n = Coded s (binary op a b) (of_two (binary_type op) T U) (typing.both m n)
+
+  operated : (op : BinOp) (a b : Lowered) (T U : Option ValueType) (m n : Needs) → Lowers s a T m → Lowers s b U n → Coded s (behind (followed_by a.code b.code) (instr.Bin op (operand_of a.type))) (of_two (binary_type op) T U) (typing.both m n)
+  operated op a b T U m n h k = record {
+    long = long_behind (followed_by a.code b.code) (instr.Bin op (operand_of a.type)) (long_both a.code b.code h.coded.long k.coded.long);
+    made = λ st proper met t is at stack r.
+      (let w = two_are (binary_type op) T U t is in
+      let i = instr.Bin op (operand_of a.type) in
+      let front = followed_by a.code b.code in
+      let place = at + front.size in
+      let takes : Takes s i (on_top w.1 (on_top w.0 stack)) (on_top t stack) =
+        subst (λ (o : Option ValueType). Takes s (instr.Bin op (operand_of o)) (on_top w.1 (on_top w.0 stack)) (on_top t stack)) (sym (h.type ∙ w.2)) (operates s.graph s.of op w.0 w.1 t stack w.4) in
+      on at place (front.from at) i st stack (on_top w.1 (on_top w.0 stack)) (on_top t stack) r (behind_place front (long_both a.code b.code h.coded.long k.coded.long) at)
+        (λ q. two at (at + a.code.size) (a.code.from at) (b.code.from (at + a.code.size)) st stack (on_top w.0 stack) (on_top w.1 (on_top w.0 stack)) q (behind_place a.code h.coded.long at)
+          (λ p. h.coded.made st proper (met_left s.around st m n met) w.0 w.2 at stack p)
+          (k.coded.made st proper (met_right s.around st m n met) w.1 w.3 (at + a.code.size) (on_top w.0 stack) q))
+        (simple place i st (on_top w.1 (on_top w.0 stack)) (on_top t stack) r refl takes (reads_nothing st) (making.plain s i refl refl) (λ lab here. plainly lab place st (on_top w.1 (on_top w.0 stack)) (suc r) here)));
+  }
+
+  binary_coded : (op : BinOp) (a b : Lowered) (T U : Option ValueType) (m n : Needs) → Lowers s a T m → Lowers s b U n → TwoCoded op a b T U m n
+  binary_coded bin.AndAlso a b T U m n h k = record {
+    long = long_both a.code (either b.code (plain (instr.Bool false ∷ []))) h.coded.long (either_long b.code (plain (instr.Bool false ∷ [])) k.coded.long (λ at. refl));
+    made = λ st proper met t is at stack r.
+      (let w = two_are (binary_type bin.AndAlso) T U t is in
+      let c = and_also w.0 w.1 t w.4 in
+      let second : U ≡ Some type.Boolean = w.3 ∙ ap Some c.1 in
+      giving at ((binary bin.AndAlso a b).from at) st stack r type.Boolean t (sym c.2)
+        (condition a.code b.code (plain (instr.Bool false ∷ [])) T m h.coded (w.2 ∙ ap Some c.0) k.coded.long (λ p. refl) st stack (type.Boolean ∷ stack) proper (met_left s.around st m n met)
+          (λ p q. k.coded.made st proper (met_right s.around st m n met) type.Boolean second p stack q) (boolean_made false st stack) at r));
+  }
+  binary_coded bin.OrElse a b T U m n h k = record {
+    long = long_both a.code (either (plain (instr.Bool true ∷ [])) b.code) h.coded.long (either_long (plain (instr.Bool true ∷ [])) b.code (λ at. refl) k.coded.long);
+    made = λ st proper met t is at stack r.
+      (let w = two_are (binary_type bin.OrElse) T U t is in
+      let c = and_also w.0 w.1 t w.4 in
+      let second : U ≡ Some type.Boolean = w.3 ∙ ap Some c.1 in
+      giving at ((binary bin.OrElse a b).from at) st stack r type.Boolean t (sym c.2)
+        (condition a.code (plain (instr.Bool true ∷ [])) b.code T m h.coded (w.2 ∙ ap Some c.0) (λ p. refl) k.coded.long st stack (type.Boolean ∷ stack) proper (met_left s.around st m n met)
+          (boolean_made true st stack) (λ p q. k.coded.made st proper (met_right s.around st m n met) type.Boolean second p stack q) at r));
+  }
+  binary_coded op a b T U m n h k = operated op a b T U m n h k
+
+  -- ---- calls
+
+  called_takes : (n : ℕ) (c : Callee) (t : ValueType) (stack : Stack) → Meets s n c → c.kind ≡ source_kind.Helper → c.result ≡ t → Takes s (instr.Call n) (pushed c.params stack) (on_top t stack)
+  called_takes n c t stack m helper gives =
+      let result : result_by m.of.result ≡ t = m.result ∙ gives in
+      ap (λ o. called_type o (pushed c.params stack)) m.is_method
+      ∙ ap (λ o. with_result (result_by m.of.result) (without_all o (pushed c.params stack))) (m.helper helper)
+      ∙ ap (λ o. with_result (result_by m.of.result) o) (without_pushed c.params stack m.values)
+      ∙ ap (λ w. Some (on_top w stack)) result
+
+  call_coded : (n : ℕ) (cs : List Code) (ts : List (Option ValueType)) (ns : List Needs) → AllCoded cs ts ns
+      → Coded s (followed_by (codes.all_of cs) (plain (instr.Turn ∷ instr.Call n ∷ []))) (typing.called_type (slice_get s.around.context.methods n) (all_types ts)) (typing.all_of ns)
+  call_coded n cs ts ns h = record {
+    long = long_both (codes.all_of cs) (plain (instr.Turn ∷ instr.Call n ∷ [])) (all_long cs ts ns h) (λ at. refl);
+    made = λ st proper met t is at stack r.
+      (let c = call_is (slice_get s.around.context.methods n) (all_types ts) t is in
+      let m = fit.methods n c.of c.is in
+      let all = codes.all_of cs in
+      let place = at + all.size in
+      let top = pushed c.of.params stack in
+      two at place (all.from at) (instr.Turn ∷ instr.Call n ∷ []) st stack top (on_top t stack) r (behind_place all (all_long cs ts ns h) at)
+        (λ q. all_made cs ts ns h st proper met c.of.params c.takes at stack q)
+        (turned s Anywhere place (instr.Call n) st top (label st (on_top t stack) r) refl
+          (record {
+            falls = omega arith; knows = λ v k. inl k; may_read = λ v k. absurd (in_none v k); stays = λ next k. record { field = inr refl; gathered = inr refl; visit = refl };
+            takes = called_takes n c.of t stack m c.helper c.gives; kind = making.plain s (instr.Call n) refl refl })
+          (λ lab here behind. record {
+            helps = record { of = m.of; is_method = m.is_method; is_kind = m.kind ∙ ap graph_kind c.helper };
+            plain = ap (λ (l : Label). l.visit) here;
+            turned = ap (λ (l : Label). l.behind) here })));
+  }
+
+  merge_coded : (n : ℕ) → Coded s (plain (instr.Turn ∷ instr.Merge n ∷ [])) (typing.merged_type (slice_get s.around.context.methods n)) (typing.merge_alone n)
+  merge_coded n = record {
+    long = λ at. refl;
+    made = λ st proper met t is at stack r.
+      (let c = merge_is (slice_get s.around.context.methods n) t is in
+      let m = fit.methods n c.of c.is in
+      let gathered : takes_gathered s.around st.gathered n ≡ true = and_left (takes_gathered s.around st.gathered n) true met.merges in
+      turned s Anywhere at (instr.Merge n) st stack (label st (on_top t stack) r) refl
+        (record {
+          falls = omega arith; knows = λ v k. inl k; may_read = λ v k. absurd (in_none v k); stays = λ next k. record { field = inr refl; gathered = inr refl; visit = refl };
+          takes = ap (λ o. merged_type o stack) m.is_method ∙ ap (λ w. Some (on_top w stack)) (m.result ∙ c.gives);
+          kind = record {
+            entry = λ k. elim proper [ inl entry ↦ entry | inr none ↦ absurd (none_gathered s.around st.gathered n none.1 gathered) ];
+            merge = λ k. absurd (false≢true k) } })
+        (λ lab here behind. record {
+          gathered = subst (λ (l : Label). takes_gathered s.around l.standing.gathered n ≡ true) (sym here) gathered;
+          merges = record { of = m.of; is_method = m.is_method; is_kind = m.kind ∙ ap graph_kind c.merge };
+          plain = ap (λ (l : Label). l.visit) here;
+          turned = ap (λ (l : Label). l.behind) here }));
+  }
