@@ -390,3 +390,229 @@ module _ (s : Setting) (fit : Fitting s) where
           plain = ap (λ (l : Label). l.visit) here;
           turned = ap (λ (l : Label). l.behind) here }));
   }
+
+  -- ---- all expressions
+
+  abbrev c : Context
+  c = s.around.context
+
+  abbrev Good : Expression → Type 0
+  Good x = Lowers s (lowered c x) (type_of c x) (needs x)
+
+  abbrev Part : Type 0
+  Part = (x : Expression) × Good x
+
+  abbrev bare : Expression-F Part → Expression-F Expression
+  bare = map-Expression Part Expression (λ p. p.0)
+
+  abbrev bares : List Part → List Expression
+  bares ps = map (λ (p : Part). p.0) ps
+
+  parts_coded : (ps : List Part) → AllCoded (map (λ (l : Lowered). l.code) (map (lowered c) (bares ps))) (map (type_of c) (bares ps)) (map needs (bares ps))
+  parts_coded [] = tt
+  parts_coded (p ∷ ps) = (p.1.coded, parts_coded ps)
+
+  parts_types : (ps : List Part) → map (λ (l : Lowered). l.type) (map (lowered c) (bares ps)) ≡ map (type_of c) (bares ps)
+  parts_types [] = refl
+  parts_types (p ∷ ps) =
+      ap (λ (o : Option ValueType). o ∷ map (λ (l : Lowered). l.type) (map (lowered c) (bares ps))) p.1.type ∙ ap (λ (os : List (Option ValueType)). type_of c p.0 ∷ os) (parts_types ps)
+
+  variable_code : (i : Instr) (v : ℕ) (U : Option ValueType) → ((at : ℕ) → next_of at i ≡ suc at ∷ []) → ((t : ValueType) → U ≡ Some t → (stack : Stack) → Takes s i stack (on_top t stack)) → reads i ≡ v ∷ [] → OfKind s i
+      → ((lab : ℕ → Label) (at : ℕ) → (lab at).visit ≡ None → Own s lab at i) → Coded s (plain (i ∷ [])) U (variable_alone v)
+  variable_code i v U straight takes reading kind own = record {
+    long = λ at. refl;
+    made = λ st proper met t is at stack r.
+      simple at i st stack (on_top t stack) r (straight at) (takes t is stack)
+        (λ w h. reads_one st v (one_known s.around st v (variable_alone v) met refl) w (subst (λ (ns : List ℕ). IsIn w ns) reading h)) kind (λ lab here. own lab at (plainly lab at st stack (suc r) here));
+  }
+
+  key_coded : Coded s (plain (instr.Key ∷ [])) (Some type.Long) typing.key_alone
+  key_coded = record {
+    long = λ at. refl;
+    made = λ st proper met t is at stack r.
+      (let keyed : has_key s.around st.field ≡ true = met.key in
+      giving at (instr.Key ∷ []) st stack r type.Long t (some_is type.Long t is)
+        (simple at instr.Key st stack (type.Long ∷ stack) r refl refl (reads_nothing st)
+          (record {
+            entry = λ k. elim proper [ inl entry ↦ entry | inr none ↦ absurd (no_field_no_key s.around st.field none.0 keyed) ];
+            merge = λ k. absurd (false≢true k) })
+          (λ lab here. record {
+            keyed = subst (λ (l : Label). has_key s.around l.standing.field ≡ true) (sym here) keyed;
+            plain = plainly lab at st stack (suc r) here })));
+  }
+
+  members_kind : (i : Instr) (t : ValueType) → c.members ≡ Some t → is_of_entry i ≡ false → OfKind s i
+  members_kind i t is e = record { entry = λ h. absurd (false≢true (sym e ∙ h)); merge = λ h. fit.merging t is }
+
+  length_coded : Coded s (plain (instr.CollectionLength 0 ∷ [])) (and_then c.members (Some type.Int)) typing.nothing
+  length_coded = record {
+    long = λ at. refl;
+    made = λ st proper met t is at stack r.
+      (let k = and_is c.members (Some type.Int) t is in
+      giving at (instr.CollectionLength 0 ∷ []) st stack r type.Int t (some_is type.Int t k.2)
+        (simple at (instr.CollectionLength 0) st stack (type.Int ∷ stack) r refl (ap (λ o. if_members o (Some (type.Int ∷ stack))) (fit.members k.0 k.1))
+          (reads_members st k.0 k.1) (members_kind (instr.CollectionLength 0) k.0 k.1 refl) (λ lab here. plainly lab at st stack (suc r) here)));
+  }
+
+  gathered_coded : (code : Code) (T : Option ValueType) (n : Needs) → Coded s code T n → Coded s (behind code (instr.CollectionItem 0)) (and_then (where_type T type.Int type.Int) c.members) n
+  gathered_coded code T n a = record {
+    long = long_behind code (instr.CollectionItem 0) a.long;
+    made = λ st proper met t is at stack r.
+      (let k = and_is (where_type T type.Int type.Int) c.members t is in
+      let index = (where_is T type.Int type.Int k.0 k.1).0 in
+      let place = at + code.size in
+      on at place (code.from at) (instr.CollectionItem 0) st stack (type.Int ∷ stack) (on_top t stack) r (behind_place code a.long at) (λ q. a.made st proper met type.Int index at stack q)
+        (simple place (instr.CollectionItem 0) st (type.Int ∷ stack) (on_top t stack) r refl (ap (λ o. pushing o (Some stack)) (fit.members t k.2))
+          (reads_members st t k.2) (members_kind (instr.CollectionItem 0) t k.2 refl) (λ lab here. plainly lab place st (type.Int ∷ stack) (suc r) here)));
+  }
+
+  gathered_size_coded : (code : Code) (T : Option ValueType) (n : Needs) → Coded s code T n → Coded s (behind code (instr.CollectionSize 0)) (and_then (where_type T type.Int type.Int) (where_type c.members type.Vector type.Int)) n
+  gathered_size_coded code T n a = record {
+    long = long_behind code (instr.CollectionSize 0) a.long;
+    made = λ st proper met t is at stack r.
+      (let k = and_is (where_type T type.Int type.Int) (where_type c.members type.Vector type.Int) t is in
+      let index = (where_is T type.Int type.Int k.0 k.1).0 in
+      let vector = where_is c.members type.Vector type.Int t k.2 in
+      let place = at + code.size in
+      giving at ((behind code (instr.CollectionSize 0)).from at) st stack r type.Int t vector.1
+        (on at place (code.from at) (instr.CollectionSize 0) st stack (type.Int ∷ stack) (type.Int ∷ stack) r (behind_place code a.long at) (λ q. a.made st proper met type.Int index at stack q)
+          (simple place (instr.CollectionSize 0) st (type.Int ∷ stack) (type.Int ∷ stack) r refl (ap (λ o. if_type o type.Vector (Some (type.Int ∷ stack))) (fit.members type.Vector vector.0))
+            (reads_members st type.Vector vector.0) (members_kind (instr.CollectionSize 0) type.Vector vector.0 refl) (λ lab here. plainly lab place st (type.Int ∷ stack) (suc r) here))));
+  }
+
+  gathered_element_coded : (at_code index : Code) (T U : Option ValueType) (m n : Needs) → Coded s at_code T m → Coded s index U n
+      → Coded s (behind (followed_by (behind at_code (instr.CollectionCheck 0)) index) (instr.CollectionGet 0))
+        (and_then (where_type T type.Int type.Int) (and_then (where_type c.members type.Vector type.Long) (where_type U type.Int type.Long))) (typing.both m n)
+  gathered_element_coded at_code index T U m n a b =
+      let checked = behind at_code (instr.CollectionCheck 0) in
+      let front = followed_by checked index in
+      let long_checked = long_behind at_code (instr.CollectionCheck 0) a.long in
+      let long_front = long_both checked index long_checked b.long in
+      record {
+        long = long_behind front (instr.CollectionGet 0) long_front;
+        made = λ st proper met t is at stack r.
+          (let k = and_is (where_type T type.Int type.Int) (and_then (where_type c.members type.Vector type.Long) (where_type U type.Int type.Long)) t is in
+          let l = and_is (where_type c.members type.Vector type.Long) (where_type U type.Int type.Long) t k.2 in
+          let first = (where_is T type.Int type.Int k.0 k.1).0 in
+          let vector = (where_is c.members type.Vector type.Long l.0 l.1).0 in
+          let second = where_is U type.Int type.Long t l.2 in
+          let place = at + at_code.size in
+          let after = at + checked.size in
+          let end = at + front.size in
+          let one_int = type.Int ∷ stack in
+          let two_ints = type.Int ∷ type.Int ∷ stack in
+          giving at ((behind front (instr.CollectionGet 0)).from at) st stack r type.Long t second.1
+            (on at end (front.from at) (instr.CollectionGet 0) st stack two_ints (type.Long ∷ stack) r (behind_place front long_front at)
+              (λ q. two at after (checked.from at) (index.from after) st stack one_int two_ints q (behind_place checked long_checked at)
+                (λ p. on at place (at_code.from at) (instr.CollectionCheck 0) st stack one_int one_int p (behind_place at_code a.long at)
+                  (λ o. a.made st proper (met_left s.around st m n met) type.Int first at stack o)
+                  (simple place (instr.CollectionCheck 0) st one_int one_int p refl (ap (λ o. if_members o (Some one_int)) (fit.members type.Vector vector))
+                    (reads_members st type.Vector vector) (members_kind (instr.CollectionCheck 0) type.Vector vector refl) (λ lab here. plainly lab place st one_int (suc p) here)))
+                (b.made st proper (met_right s.around st m n met) type.Int second.0 after one_int q))
+              (simple end (instr.CollectionGet 0) st two_ints (type.Long ∷ stack) r refl (ap (λ o. if_type o type.Vector (Some (type.Long ∷ stack))) (fit.members type.Vector vector))
+                (reads_members st type.Vector vector) (members_kind (instr.CollectionGet 0) type.Vector vector refl) (λ lab here. plainly lab end st two_ints (suc r) here))));
+      }
+
+  vector_element_coded : (v : ℕ) (code : Code) (T : Option ValueType) (n : Needs) → Coded s code T n
+      → Coded s (behind code (instr.VectorGet v)) (and_then (where_type (variable_type c v) type.Vector type.Long) (where_type T type.Int type.Long)) (typing.both n (variable_alone v))
+  vector_element_coded v code T n a = record {
+    long = long_behind code (instr.VectorGet v) a.long;
+    made = λ st proper met t is at stack r.
+      (let k = and_is (where_type (variable_type c v) type.Vector type.Long) (where_type T type.Int type.Long) t is in
+      let vector = (where_is (variable_type c v) type.Vector type.Long k.0 k.1).0 in
+      let index = where_is T type.Int type.Long t k.2 in
+      let place = at + code.size in
+      giving at ((behind code (instr.VectorGet v)).from at) st stack r type.Long t index.1
+        (on at place (code.from at) (instr.VectorGet v) st stack (type.Int ∷ stack) (type.Long ∷ stack) r (behind_place code a.long at) (λ q. a.made st proper (met_left s.around st n (variable_alone v) met) type.Int index.0 at stack q)
+          (simple place (instr.VectorGet v) st (type.Int ∷ stack) (type.Long ∷ stack) r refl (ap (λ o. if_type o type.Vector (Some (type.Long ∷ stack))) (fit.variables v type.Vector vector))
+            (reads_one st v (one_known s.around st v (variable_alone v) (met_right s.around st n (variable_alone v) met) refl)) (making.plain s (instr.VectorGet v) refl refl) (λ lab here. plainly lab place st (type.Int ∷ stack) (suc r) here))));
+  }
+
+  chosen_coded : (test a b : Code) (T U V : Option ValueType) (m n o : Needs) → Coded s test T m → Coded s a U n → Coded s b V o → Coded s (followed_by test (either a b)) (chosen_type T U V) (typing.both m (typing.both n o))
+  chosen_coded test a b T U V m n o h k l = record {
+    long = long_both test (either a b) h.long (either_long a b k.long l.long);
+    made = λ st proper met t is at stack r.
+      (let w = chosen_is T U V t is in
+      let rest = met_right s.around st m (typing.both n o) met in
+      condition test a b T m h w.0 k.long l.long st stack (on_top t stack) proper (met_left s.around st m (typing.both n o) met)
+        (λ p q. k.made st proper (met_left s.around st n o rest) t w.1 p stack q) (λ p q. l.made st proper (met_right s.around st n o rest) t w.2 p stack q) at r);
+  }
+
+  layer : (y : Expression-F Part) → Lowers s (lowered_step c (map-Expression Expression Lowered (lowered c) (bare y))) (type_step c (map-Expression Expression (Option ValueType) (type_of c) (bare y))) (needs_step (map-Expression Expression Needs needs (bare y)))
+  layer e.Nothing = record { type = refl; coded = record { long = λ at. refl; made = λ st proper met t is at stack r. absurd (none_some t is) } }
+  layer (e.Int n) = record { type = refl; coded = constant (instr.Int n) type.Int typing.nothing (λ at. refl) (λ stack. refl) in_none (making.plain s (instr.Int n) refl refl) (λ lab at p. p) }
+  layer (e.Long n) = record { type = refl; coded = constant (instr.Long n) type.Long typing.nothing (λ at. refl) (λ stack. refl) in_none (making.plain s (instr.Long n) refl refl) (λ lab at p. p) }
+  layer (e.Bool b) = record { type = refl; coded = constant (instr.Bool b) type.Boolean typing.nothing (λ at. refl) (λ stack. refl) in_none (making.plain s (instr.Bool b) refl refl) (λ lab at p. p) }
+  layer (e.Variable v) = record {
+    type = refl;
+    coded = variable_code (instr.Load v) v (variable_type c v) (λ at. refl) (λ t is stack. ap (λ o. pushing o (Some stack)) (fit.variables v t is)) refl (making.plain s (instr.Load v) refl refl) (λ lab at p. Plainly p);
+  }
+  layer e.CarriedKey = record { type = refl; coded = key_coded }
+  layer (e.Unary op a) = record { type = ap (of_one (unary_type op)) a.1.type; coded = unary_coded op (lowered c a.0).code (type_of c a.0) (needs a.0) a.1.coded }
+  layer (e.Binary op a b) = record {
+    type = ap (λ o. of_two (binary_type op) o (lowered c b.0).type) a.1.type ∙ ap (λ o. of_two (binary_type op) (type_of c a.0) o) b.1.type;
+    coded = binary_coded op (lowered c a.0) (lowered c b.0) (type_of c a.0) (type_of c b.0) (needs a.0) (needs b.0) a.1 b.1;
+  }
+  layer (e.Cast to a) = record {
+    type = ap (cast_type to) a.1.type;
+    coded = operand (lowered c a.0).code (type_of c a.0) (cast_type to (type_of c a.0)) (needs a.0) (instr.Cast to) a.1.coded (λ at. refl)
+      (λ t is. (let k = cast_is to (type_of c a.0) t is in (k.0, k.1, λ stack. casts s.graph s.of to k.0 t stack k.2)))
+      (λ st met v h. absurd (in_none v h)) (λ t is. making.plain s (instr.Cast to) refl refl) (λ lab at p. p);
+  }
+  layer (e.Conditional test a b) = record {
+    type = ap (λ o. chosen_type o (lowered c a.0).type (lowered c b.0).type) test.1.type ∙ ap (λ o. chosen_type (type_of c test.0) o (lowered c b.0).type) a.1.type ∙ ap (λ o. chosen_type (type_of c test.0) (type_of c a.0) o) b.1.type;
+    coded = chosen_coded (lowered c test.0).code (lowered c a.0).code (lowered c b.0).code (type_of c test.0) (type_of c a.0) (type_of c b.0) (needs test.0) (needs a.0) (needs b.0) test.1.coded a.1.coded b.1.coded;
+  }
+  layer (e.NewVector n) = record {
+    type = ap (λ o. where_type o type.Int type.Vector) n.1.type;
+    coded = operand (lowered c n.0).code (type_of c n.0) (where_type (type_of c n.0) type.Int type.Vector) (needs n.0) instr.NewVector n.1.coded (λ at. refl)
+      (λ t is. (let k = where_is (type_of c n.0) type.Int type.Vector t is in (type.Int, k.0, λ stack. ap (λ w. Some (on_top w stack)) k.1)))
+      (λ st met v h. absurd (in_none v h)) (λ t is. making.plain s instr.NewVector refl refl) (λ lab at p. p);
+  }
+  layer (e.VectorSize v) = record {
+    type = refl;
+    coded = variable_code (instr.VectorSize v) v (where_type (variable_type c v) type.Vector type.Int) (λ at. refl)
+      (λ t is stack. (let k = where_is (variable_type c v) type.Vector type.Int t is in ap (λ o. if_type o type.Vector (Some (type.Int ∷ stack))) (fit.variables v type.Vector k.0) ∙ ap (λ w. Some (on_top w stack)) k.1))
+      refl (making.plain s (instr.VectorSize v) refl refl) (λ lab at p. p);
+  }
+  layer (e.VectorElement v at) = record {
+    type = ap (λ o. and_then (where_type (variable_type c v) type.Vector type.Long) (where_type o type.Int type.Long)) at.1.type;
+    coded = vector_element_coded v (lowered c at.0).code (type_of c at.0) (needs at.0) at.1.coded;
+  }
+  layer e.GatheredLength = record { type = refl; coded = length_coded }
+  layer (e.Gathered at) = record {
+    type = ap (λ o. and_then (where_type o type.Int type.Int) c.members) at.1.type;
+    coded = gathered_coded (lowered c at.0).code (type_of c at.0) (needs at.0) at.1.coded;
+  }
+  layer (e.GatheredSize at) = record {
+    type = ap (λ o. and_then (where_type o type.Int type.Int) (where_type c.members type.Vector type.Int)) at.1.type;
+    coded = gathered_size_coded (lowered c at.0).code (type_of c at.0) (needs at.0) at.1.coded;
+  }
+  layer (e.GatheredElement at index) = record {
+    type = ap (λ o. and_then (where_type o type.Int type.Int) (and_then (where_type c.members type.Vector type.Long) (where_type (lowered c index.0).type type.Int type.Long))) at.1.type
+      ∙ ap (λ o. and_then (where_type (type_of c at.0) type.Int type.Int) (and_then (where_type c.members type.Vector type.Long) (where_type o type.Int type.Long))) index.1.type;
+    coded = gathered_element_coded (lowered c at.0).code (lowered c index.0).code (type_of c at.0) (type_of c index.0) (needs at.0) (needs index.0) at.1.coded index.1.coded;
+  }
+  layer (e.Call m args) = record {
+    type = ap (λ os. typing.called_type (slice_get c.methods m) (all_types os)) (parts_types args);
+    coded = call_coded m (map (λ (l : Lowered). l.code) (map (lowered c) (bares args))) (map (type_of c) (bares args)) (map needs (bares args)) (parts_coded args);
+  }
+  layer (e.Merge m) = record { type = refl; coded = merge_coded m }
+
+  made_good : (x : Expression-F Expression) (y : Expression-F Part) → bare y ≡ x → Good (roll-Expression x)
+  made_good x y is =
+      let low = fold-roll-Expression Lowered (lowered_step c) x in
+      let typed = fold-roll-Expression (Option ValueType) (type_step c) x in
+      let need = fold-roll-Expression Needs needs_step x in
+      let P : Expression-F Expression → Type 0 = λ z. Lowers s (lowered_step c (map-Expression Expression Lowered (lowered c) z)) (type_step c (map-Expression Expression (Option ValueType) (type_of c) z)) (needs_step (map-Expression Expression Needs needs z)) in
+      let all : P x = subst P is (layer y) in
+      subst (λ (l : Lowered). Lowers s l (type_of c (roll-Expression x)) (needs (roll-Expression x))) (sym low)
+      (subst (λ (o : Option ValueType). Lowers s (lowered_step c (map-Expression Expression Lowered (lowered c) x)) o (needs (roll-Expression x))) (sym typed)
+      (subst (λ (n : Needs). Lowers s (lowered_step c (map-Expression Expression Lowered (lowered c) x)) (type_step c (map-Expression Expression (Option ValueType) (type_of c) x)) n) (sym need) all))
+
+  pub expressions : (x : Expression) → Lowers s (lowered c x) (type_of c x) (needs x)
+  expressions = ind-Expression Good made_good
+
+  pub several : (xs : List Expression) → AllCoded (map (code_of c) xs) (map (type_of c) xs) (map needs xs)
+  several [] = tt
+  several (x ∷ xs) = ((expressions x).coded, several xs)
