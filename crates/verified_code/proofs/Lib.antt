@@ -3,3 +3,4 @@ mod Making
 mod Typed
 mod Needed
 mod Expressions
+mod Simple
