@@ -4,3 +4,4 @@ mod Typed
 mod Needed
 mod Expressions
 mod Simple
+mod Control
