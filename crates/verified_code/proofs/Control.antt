@@ -38,10 +38,10 @@ get_right [] ys n k e = let f : n ≡ k = omega (arith, e) in ap (slice_get ys) 
 get_right (z ∷ xs) ys zero k e = absurd (omega (arith, e))
 get_right (z ∷ xs) ys (suc n) k e = get_right xs ys n k (omega (arith, e))
 
-carries_left : (s : Setting) (a b : List VarType) (v : ℕ) → Carries s (a ++ b) v → Carries s a v
+pub carries_left : (s : Setting) (a b : List VarType) (v : ℕ) → Carries s (a ++ b) v → Carries s a v
 carries_left s a b v h k t e = h k t (get_left a b k t e)
 
-carries_right : (s : Setting) (a b : List VarType) (v : ℕ) → Carries s (a ++ b) v → Carries s b (v + length a)
+pub carries_right : (s : Setting) (a b : List VarType) (v : ℕ) → Carries s (a ++ b) v → Carries s b (v + length a)
 carries_right s a b v h k t e =
     let place : v + (length a + k) ≡ (v + length a) + k = omega arith in
     subst (λ (n : ℕ). type_of_variable s.of n ≡ Some (type_by t)) place (h (length a + k) t (get_right a b (length a + k) k refl ∙ e))
@@ -87,7 +87,7 @@ meets_second st a b grows = record {
   gathered = common_second (same_value a.gathered b.gathered) a.gathered b.gathered (value_is a.gathered b.gathered);
 }
 
-ends_is : (need : Standing) (o : Option Standing) → ends_as need o ≡ true → (end : Standing) × (o ≡ Some end) × Covers end need
+pub ends_is : (need : Standing) (o : Option Standing) → ends_as need o ≡ true → (end : Standing) × (o ≡ Some end) × Covers end need
 ends_is need None e = absurd (false≢true e)
 ends_is need (Some end) e = (end, refl, covers_is end need e)
 
@@ -124,7 +124,7 @@ if_only s Out at k end xs st after r k_is end_of covers a =
     }
 
 -- a turn of which the next place may be anything
-turn_right : (s : Setting) (lab : ℕ → Label) (at : ℕ) (st : Standing) (r q : ℕ) → lab at ≡ label st [] r → Eases (label st [] q) (lab (suc at)) → Right s lab at instr.Turn
+pub turn_right : (s : Setting) (lab : ℕ → Label) (at : ℕ) (st : Standing) (r q : ℕ) → lab at ≡ label st [] r → Eases (label st [] q) (lab (suc at)) → Right s lab at instr.Turn
 turn_right s lab at st r q is goes =
     let from : label st [] r ≡ lab at = sym is in
     let to : (next : ℕ) → IsIn next (suc at ∷ []) → Eases (label st [] q) (lab next) = (λ next h. subst (λ (n : ℕ). Eases (label st [] q) (lab n)) (sym (only_one next (suc at) h)) goes) in
@@ -185,7 +185,7 @@ module _ (s : Setting) (w : Whole s) where
 
   -- ---- what ends in less
 
-  compound_covers : (st end : Standing) → ((v : ℕ) → Knows st v → Knows end v) → Covers end (after_compound st end)
+  pub compound_covers : (st end : Standing) → ((v : ℕ) → Knows st v → Knows end v) → Covers end (after_compound st end)
   compound_covers st end grows = record { known = grows; field = inr refl; gathered = inr refl }
 
   pub block_done : (piece : Piece) (k : Checking) → Pieced s piece k → Pieced s piece (λ exits st. compound st (k exits st))
@@ -202,7 +202,7 @@ module _ (s : Setting) (w : Whole s) where
 
   outside_proper : (st : Standing) → Proper s st → Proper s (outside st)
   outside_proper st (inl entry) = inl entry
-  outside_proper st (inr nothing) = inr (refl, refl)
+  outside_proper st (inr _) = inr (refl, refl)
 
   outside_covers : (st end : Standing) → ((v : ℕ) → Knows (outside st) v → Knows end v) → Covers end (outside st)
   outside_covers st end grows = record { known = grows; field = inl refl; gathered = inl refl }
@@ -330,7 +330,7 @@ module _ (s : Setting) (w : Whole s) where
   key_long None at = refl
   key_long (Some key) at = value_long s w key at
 
-  entry_is : (k : MethodKind) → is_entry k ≡ true → k ≡ source_kind.Entry
+  pub entry_is : (k : MethodKind) → is_entry k ≡ true → k ≡ source_kind.Entry
   entry_is source_kind.Entry e = refl
   entry_is source_kind.Helper e = absurd (false≢true e)
   entry_is source_kind.Merge e = absurd (false≢true e)

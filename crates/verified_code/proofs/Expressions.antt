@@ -104,7 +104,7 @@ and_is : (o p : Option ValueType) (u : ValueType) → and_then o p ≡ Some u �
 and_is None p u e = absurd (none_some u e)
 and_is (Some a) p u e = (a, refl, e)
 
-with_is : (o : Option ValueType) (p : Option (List ValueType)) (us : List ValueType) → with_type o p ≡ Some us → (t : ValueType) × (ts : List ValueType) × (o ≡ Some t) × (p ≡ Some ts) × (t ∷ ts ≡ us)
+pub with_is : (o : Option ValueType) (p : Option (List ValueType)) (us : List ValueType) → with_type o p ≡ Some us → (t : ValueType) × (ts : List ValueType) × (o ≡ Some t) × (p ≡ Some ts) × (t ∷ ts ≡ us)
 with_is None p us e = absurd (none_some us e)
 with_is (Some t) None us e = absurd (none_some us e)
 with_is (Some t) (Some ts) us e = (t, ts, refl, refl, some_is (t ∷ ts) us e)

@@ -5,3 +5,5 @@ mod Needed
 mod Expressions
 mod Simple
 mod Control
+mod Loops
+mod Visits

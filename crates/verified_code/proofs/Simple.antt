@@ -77,7 +77,7 @@ pub type_is : (o : Option ValueType) (t : ValueType) → is_type o t ≡ true �
 type_is None t e = absurd (false≢true e)
 type_is (Some u) t e = ap Some (same_is u t e)
 
-types_are : (o : Option (List ValueType)) (ts : List ValueType) → are_types o ts ≡ true → o ≡ Some ts
+pub types_are : (o : Option (List ValueType)) (ts : List ValueType) → are_types o ts ≡ true → o ≡ Some ts
 types_are None ts e = absurd (false≢true e)
 types_are (Some us) ts e = ap Some (same_are us ts e)
 

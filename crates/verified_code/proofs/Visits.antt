@@ -1,0 +1,229 @@
+-- The labels of gathering accesses: the arguments are stored, each visit loads them, and ends in a part.
+use Rattle.std.proofs.Common.{◌≡◌, refl, sym, ap, subst, ◌∙◌, ℕ, zero, suc, ◌+◌, ◌<◌, ◌≤◌, arith, Bool, true, false, ◌&&◌, List, [], ◌∷◌, ◌++◌, map, length, length-append, Option, Some, None, slice_get, ◌⊎◌, inl, inr}
+use Rattle.std.specs.List.{range_with_len, flat_map, list_all}
+use Rattle.std.proofs.lemmas.Bool.{false≢true}
+use Rattle.sdg_base.specs.declared.value_type.ValueType.{ValueType}
+use Rattle.sdg_base.specs.declared.value_type.ValueType.TheVariants as type
+use Rattle.sdg_base.specs.Signatures.{Signature}
+use Rattle.state_classes.specs.declared.method.Method.{Method}
+use Rattle.java_tree.specs.declared.method_kinds.MethodKind.{MethodKind}
+use Rattle.java_tree.specs.declared.method_kinds.MethodKind.TheVariants as source_kind
+use Rattle.flat_code.specs.declared.graph.Instr.{Instr}
+use Rattle.flat_code.specs.declared.graph.Instr.TheVariants as instr
+use Rattle.flat_code.specs.declared.graph.VarType.{VarType}
+use Rattle.flat_code.specs.Types.{type_by, type_of_variable, signature_at}
+use Rattle.flat_code.specs.Ways.{IsIn, next_of, reads, writes}
+use Rattle.flat_code.specs.Verified.{Stack, without, on_top, with_result, pushing, stored_type, accessed_type, is_of_merge, is_of_entry}
+use Rattle.access_blocks.specs.declared.body.Expression.{Expression}
+use Rattle.access_blocks.specs.declared.body.Gather.{Gather}
+use Rattle.access_blocks.specs.declared.body.Holder.{Holder}
+use Rattle.body_code.specs.Early.{is_in}
+use Rattle.body_code.specs.Typing.{Context, Needs, needs, needs_of_all, type_of, types_of, all_types}
+use Rattle.body_code.specs.Typing as typing
+use Rattle.body_code.specs.Codes.{Code, plain, nothing, followed_by}
+use Rattle.body_code.specs.ExpressionCode.{code_of, behind}
+use Rattle.body_code.specs.StatementCode.{Place, Exits, Piece, behind_piece, then_piece, cut, stored_from, stored, var_type, arguments_of, visit, name_in}
+use Rattle.body_code.specs.StatementCode as code
+use Rattle.body_code.specs.Checking.{Surroundings, Standing, Around, Checking, with_known, outside, gathering, if_so, are_met, are_known, is_partial, takes_all, are_types, is_entry, takes_gathered, has_key}
+use Rattle.body_code.specs.Checking as checking
+use Rattle.verified_code.proofs.Labels.{Behind, Anything, Accessing, Label, label, Setting, Knows, MayRead, IsKnown, Stays, Eases, eases_on, same_eases, Own, Takes, Suits, OfKind, AtAccess, InVisit, AtPart, AtLoad, Visiting, CutsAt, ToVisit, Right, Good, Agrees, good_both, agrees_left, agrees_right, Begins, Made}
+use Rattle.verified_code.proofs.Making.{only_one, in_none, Follows, right_by, one, none, both, turning, turned}
+use Rattle.verified_code.proofs.Making as making
+use Rattle.verified_code.proofs.Typed.{none_some, some_is, is_value, are_values, pushed, without_pushed, one_off, same_are, and_left, and_right}
+use Rattle.verified_code.proofs.Needed.{IsMet, is_met, met_left, met_right, and_both}
+use Rattle.verified_code.proofs.Expressions.{Proper, Anywhere, behind_place, long_behind, long_both, with_is}
+use Rattle.verified_code.proofs.Simple.{Whole, FieldMeets, scope, Leads, Carries, Pieced, so_is, known_more, still_known, now_known, TypedBy, value_made, value_long, anywhere, same_standing, same_known, types_are}
+use Rattle.verified_code.proofs.Control.{entry_is}
+
+abbrev pub know_from : ℕ → List ValueType → Standing → Standing
+know_from v [] st = st
+know_from v (t ∷ ts) st = know_from (suc v) ts (with_known v st)
+
+abbrev pub AllKnown : Standing → ℕ → List ValueType → Type 0
+AllKnown st v [] = Unit {0}
+AllKnown st v (t ∷ ts) = Knows st v × AllKnown st (suc v) ts
+
+know_more : (v : ℕ) (ts : List ValueType) (st : Standing) (u : ℕ) → Knows st u → Knows (know_from v ts st) u
+know_more v [] st u h = h
+know_more v (t ∷ ts) st u h = know_more (suc v) ts (with_known v st) u (still_known u v st h)
+
+all_known : (v : ℕ) (ts : List ValueType) (st : Standing) → AllKnown (know_from v ts st) v ts
+all_known v [] st = tt
+all_known v (t ∷ ts) st = (know_more (suc v) ts (with_known v st) v (now_known v st), all_known (suc v) ts (with_known v st))
+
+field_from : (v : ℕ) (ts : List ValueType) (st : Standing) → ((know_from v ts st).field ≡ st.field) × ((know_from v ts st).gathered ≡ st.gathered)
+field_from v [] st = (refl, refl)
+field_from v (t ∷ ts) st = field_from (suc v) ts (with_known v st)
+
+met_more : (around : Surroundings) (st : Standing) (v : ℕ) (n : Needs) → IsMet around st n → IsMet around (with_known v st) n
+met_more around st v n h = record { known = more n.variables h.known; merges = h.merges; key = h.key }
+  where
+    more : (vs : List ℕ) → are_known st vs ≡ true → are_known (with_known v st) vs ≡ true
+    more [] e = refl
+    more (u ∷ vs) e = and_both (is_in u (with_known v st).known) (are_known (with_known v st) vs) (still_known u v st (and_left (is_in u st.known) (are_known st vs) e)) (more vs (and_right (is_in u st.known) (are_known st vs) e))
+
+none_of : {A : Type 0} {o : Option A} → (o ≡ None) ⊎ (o ≡ None) → o ≡ None
+none_of (inl e) = e
+none_of (inr e) = e
+
+module _ (s : Setting) (w : Whole s) where
+  abbrev c : Context
+  c = s.around.context
+
+  abbrev Holds : List ValueType → ℕ → Type 0
+  Holds [] v = Unit {0}
+  Holds (t ∷ ts) v = (type_of_variable s.of v ≡ Some t) × Holds ts (suc v)
+
+  shifted : (x : VarType) (xs : List VarType) (v : ℕ) → Carries s (x ∷ xs) v → Carries s xs (suc v)
+  shifted x xs v h k t e = let place : v + suc k ≡ suc v + k = omega arith in subst (λ (n : ℕ). type_of_variable s.of n ≡ Some (type_by t)) place (h (suc k) t e)
+
+  first_held : (x : VarType) (xs : List VarType) (v : ℕ) → Carries s (x ∷ xs) v → type_of_variable s.of v ≡ Some (type_by x)
+  first_held x xs v h = let place : v + 0 ≡ v = omega arith in subst (λ (n : ℕ). type_of_variable s.of n ≡ Some (type_by x)) place (h 0 x refl)
+
+  holds : (ts : List ValueType) (v : ℕ) → are_values ts ≡ true → Carries s (flat_map var_type ts) v → Holds ts v
+  holds [] v e h = tt
+  holds (type.Int ∷ ts) v e h = (first_held _ (flat_map var_type ts) v h, holds ts (suc v) e (shifted _ (flat_map var_type ts) v h))
+  holds (type.Long ∷ ts) v e h = (first_held _ (flat_map var_type ts) v h, holds ts (suc v) e (shifted _ (flat_map var_type ts) v h))
+  holds (type.Boolean ∷ ts) v e h = (first_held _ (flat_map var_type ts) v h, holds ts (suc v) e (shifted _ (flat_map var_type ts) v h))
+  holds (type.Vector ∷ ts) v e h = (first_held _ (flat_map var_type ts) v h, holds ts (suc v) e (shifted _ (flat_map var_type ts) v h))
+  holds (type.Void ∷ ts) v e h = absurd (false≢true e)
+
+  -- ---- the arguments are stored
+
+  pub stored_long : (xs : List Expression) (v at : ℕ) → length ((stored_from c xs v).from at) ≡ (stored_from c xs v).size
+  stored_long [] v at = refl
+  stored_long (x ∷ xs) v at = long_both s w.fit (behind (code_of c x) (instr.Store v)) (stored_from c xs (suc v)) (long_behind s w.fit (code_of c x) (instr.Store v) (value_long s w x)) (stored_long xs (suc v)) at
+
+  pub stored_size : (xs : List Expression) (v u : ℕ) → (stored_from c xs v).size ≡ (stored_from c xs u).size
+  stored_size [] v u = refl
+  stored_size (x ∷ xs) v u = ap (λ (n : ℕ). (code_of c x).size + 1 + n) (stored_size xs (suc v) (suc u))
+
+  carry_made : (at v : ℕ) (t : ValueType) (st : Standing) (r : ℕ) → type_of_variable s.of v ≡ Some t → is_value t ≡ true → Made s Anywhere at (instr.Store v ∷ []) st (on_top t []) (label (with_known v st) [] r)
+  carry_made at v t st r is value =
+      one s Anywhere at (instr.Store v) st (on_top t []) (label (with_known v st) [] r) refl
+      (record {
+        falls = omega arith;
+        knows = λ u h. elim (known_more u v st h) [ inl k ↦ inl k | inr e ↦ inr (ap Some (sym e)) ];
+        may_read = λ u h. absurd (in_none u h);
+        stays = λ next h. record { field = inr refl; gathered = inr refl; visit = refl };
+        takes = ap (λ o. stored_type o (on_top t [])) is ∙ one_off t [] value;
+        kind = making.plain s (instr.Store v) refl refl })
+      (λ lab here. ap (λ (l : Label). l.visit) here)
+
+  stored_made : (xs : List Expression) (ts : List ValueType) (v : ℕ) (st : Standing) → Proper s st → IsMet s.around st (needs_of_all xs) → types_of c xs ≡ Some ts → are_values ts ≡ true → Holds ts v → (at r : ℕ)
+      → Made s Anywhere at ((stored_from c xs v).from at) st [] (label (know_from v ts st) [] r)
+  stored_made [] ts v st proper met e values h at r = subst (λ (us : List ValueType). Made s Anywhere at [] st [] (label (know_from v us st) [] r)) (some_is {A = List ValueType} [] ts e) (none s Anywhere at st [] r)
+  stored_made (x ∷ xs) [] v st proper met e values h at r = absurd (let k = with_is (type_of c x) (types_of c xs) [] e in let m = k.4 in cc)
+  stored_made (x ∷ xs) (t ∷ ts) v st proper met e values h at r =
+      let k = with_is (type_of c x) (types_of c xs) (t ∷ ts) e in
+      let both_are = k.4 in
+      let first : type_of c x ≡ Some t = k.2 ∙ (let m : k.0 ≡ t = cc in ap Some m) in
+      let others : types_of c xs ≡ Some ts = k.3 ∙ (let m : k.1 ≡ ts = cc in ap Some m) in
+      let met_first = met_left s.around st (needs x) (needs_of_all xs) met in
+      let met_rest = met_more s.around st v (needs_of_all xs) (met_right s.around st (needs x) (needs_of_all xs) met) in
+      let place = at + (code_of c x).size in
+      let front = behind (code_of c x) (instr.Store v) in
+      let next_at = at + front.size in
+      let rest = stored_made xs ts (suc v) (with_known v st) proper met_rest others (and_right (is_value t) (are_values ts) values) h.1 next_at r in
+      let storing = carry_made place v t st rest.rank h.0 (and_left (is_value t) (are_values ts) values) in
+      let typed : TypedBy s.around st x t = record { met = met_first; typed = first } in
+      let value = value_made s w x t st proper typed at [] storing.rank in
+      let assigned = both s Anywhere at place ((code_of c x).from at) (instr.Store v ∷ []) st st [] (on_top t []) (label (with_known v st) [] rest.rank) (behind_place s w.fit (code_of c x) (value_long s w x) at) storing value in
+      both s Anywhere at next_at (front.from at) ((stored_from c xs (suc v)).from next_at) st (with_known v st) [] [] (label (know_from (suc v) ts (with_known v st)) [] r)
+        (behind_place s w.fit front (long_behind s w.fit (code_of c x) (instr.Store v) (value_long s w x)) at) rest assigned
+
+  -- ---- a visit
+
+  abbrev visiting : ℕ → Standing → Stack → ℕ → Label
+  visiting part st stack rank = record { stack = stack; standing = st; visit = Some part; behind = Anything; rank = rank }
+
+  abbrev parting : ℕ → Standing → Stack → ℕ → Label
+  parting part st stack rank = record { stack = stack; standing = st; visit = Some part; behind = Accessing; rank = rank }
+
+  abbrev visit_labels : ℕ → Standing → ValueType → ℕ → List ValueType → Stack → List Label
+  visit_labels part st result r [] stack = visiting part st stack (r + 2) ∷ parting part st (on_top result []) (suc r) ∷ []
+  visit_labels part st result r (t ∷ ts) stack = visiting part st stack (r + 2 + suc (length ts)) ∷ visit_labels part st result r ts (on_top t stack)
+
+  visit_many : (part : ℕ) (st : Standing) (result : ValueType) (r : ℕ) (ts : List ValueType) (stack : Stack) → length (visit_labels part st result r ts stack) ≡ length ts + 2
+  visit_many part st result r [] stack = refl
+  visit_many part st result r (t ∷ ts) stack = let e = visit_many part st result r ts (on_top t stack) in omega (arith, e)
+
+  visit_begins : (lab : ℕ → Label) (at part : ℕ) (st : Standing) (result : ValueType) (r : ℕ) (ts : List ValueType) (stack : Stack) → Agrees lab at (visit_labels part st result r ts stack) → lab at ≡ visiting part st stack (r + 2 + length ts)
+  visit_begins lab at part st result r [] stack h = let e : r + 2 ≡ r + 2 + 0 = omega arith in h.0 ∙ ap (visiting part st stack) e
+  visit_begins lab at part st result r (t ∷ ts) stack h = h.0
+
+  visit_eases : (part : ℕ) (st : Standing) (stack : Stack) (r : ℕ) → Eases (visiting part st stack r) (visiting part st stack r)
+  visit_eases part st stack r = record { stack = refl; known = λ v h. h; stays = record { field = inr refl; gathered = inr refl; visit = refl }; behind = refl; rank = omega arith }
+
+  entry_kind : (i : Instr) → is_of_merge i ≡ false → s.around.kind ≡ source_kind.Entry → OfKind s i
+  entry_kind i e entry = record { entry = λ h. entry; merge = λ h. absurd (false≢true (sym e ∙ h)) }
+
+  module _ (g : Gather) (sig : Signature) (meets : FieldMeets s g.field g.method sig) (entry : s.around.kind ≡ source_kind.Entry) (st before : Standing) (grown : (v : ℕ) → Knows st v → Knows before v) where
+    abbrev name : List ℕ
+    name = name_in (slice_get s.graph.fields g.field)
+
+    abbrev last_code : ℕ → List Instr
+    last_code t = instr.Access name g.method ∷ instr.Part t ∷ []
+
+    visit_good : (lab : ℕ → Label) (t part r : ℕ) (ts : List ValueType) (v at : ℕ) (stack : Stack) → part ≡ at + length ts + 1 → without sig.arguments (pushed ts stack) ≡ Some [] → Holds ts v → AllKnown before v ts
+        → Agrees lab at (visit_labels part (outside before) sig.result r ts stack) → Eases (label (gathering sig.result st) [] r) (lab (suc part)) → Good s lab at (map instr.Load (range_with_len v (length ts)) ++ last_code t)
+    visit_good lab t part r [] v at stack place taken held known agrees eases =
+        let part_is : part ≡ suc at = omega (arith, place) in
+        let here : visiting part (outside before) stack (r + 2) ≡ lab at = sym agrees.0 in
+        let there : parting part (outside before) (on_top sig.result []) (suc r) ≡ lab (suc at) = sym agrees.1.0 in
+        let behind : Eases (label (gathering sig.result st) [] r) (lab (suc (suc at))) = subst (λ (n : ℕ). Eases (label (gathering sig.result st) [] r) (lab (suc n))) part_is eases in
+        let to : (P : Label → Type 0) (next : ℕ) → IsIn next (suc at ∷ []) → P (parting part (outside before) (on_top sig.result []) (suc r)) → P (lab next) =
+          (λ P next h p. subst (λ (n : ℕ). P (lab n)) (sym (only_one next (suc at) h)) (subst P there p)) in
+        let less : suc r < r + 2 = omega arith in
+        let end : (next : ℕ) → IsIn next (suc (suc at) ∷ []) → Eases (label (gathering sig.result st) [] r) (lab next) = (λ next h. subst (λ (n : ℕ). Eases (label (gathering sig.result st) [] r) (lab n)) (sym (only_one next (suc (suc at)) h)) behind) in
+        let accessing : Right s lab at (instr.Access name g.method) = record {
+          after = on_top sig.result [];
+          takes = subst (λ (l : Label). Takes s (instr.Access name g.method) l.stack (on_top sig.result [])) here (ap (λ o. accessed_type o stack) meets.of_graph ∙ ap (λ o. with_result sig.result o) taken);
+          stacks = λ next h. to (λ l. l.stack ≡ on_top sig.result []) next h refl;
+          ranks = λ next h no_turn. to (λ l. l.rank < (lab at).rank) next h (subst (λ (l : Label). suc r < l.rank) here less);
+          knows = λ next h u k. inl (subst (λ (l : Label). Knows l.standing u) here (to (λ l. Knows l.standing u → Knows (outside before) u) next h (λ k. k) k));
+          may_read = λ u h. absurd (in_none u h);
+          jumps = λ next j. absurd j;
+          stays = λ next h. to (λ l. Stays (lab at) l) next h (subst (λ (l : Label). Stays l (parting part (outside before) (on_top sig.result []) (suc r))) here (record { field = inr refl; gathered = inr refl; visit = refl }));
+          own = InVisit g.field sig (subst (λ (l : Label). l.visit ≡ Some (suc at)) here (ap Some part_is)) refl meets.of_graph (subst (λ (l : Label). l.stack ≡ on_top sig.result []) there refl) behind.stays.gathered;
+          suits = subst (λ (l : Label). Suits (instr.Access name g.method) l.behind) there tt;
+          kind = entry_kind (instr.Access name g.method) refl entry;
+        } in
+        let ending : Right s lab (suc at) (instr.Part t) = record {
+          after = [];
+          takes = refl;
+          stacks = λ next h. (end next h).stack;
+          ranks = λ next h no_turn. (let below : (lab next).rank ≤ r = (end next h).rank in subst (λ (l : Label). (lab next).rank < l.rank) there (omega (arith, below)));
+          knows = λ next h u k. inl (subst (λ (l : Label). Knows l.standing u) there (grown u ((end next h).known u k)));
+          may_read = λ u h. absurd (in_none u h);
+          jumps = λ next j. absurd j;
+          stays = λ next h. absurd (in_none next h);
+          own = record {
+            visit = subst (λ (l : Label). l.visit ≡ Some (suc at)) there (ap Some part_is);
+            behind = subst (λ (l : Label). l.behind ≡ Accessing) there refl;
+            plain = behind.stays.visit;
+            no_field = none_of behind.stays.field };
+          suits = subst (λ (b : Behind). Suits (instr.Part t) b) (sym behind.behind) tt;
+          kind = entry_kind (instr.Part t) refl entry;
+        } in
+        (accessing, (ending, tt))
+    visit_good lab t part r (x ∷ ts) v at stack place taken held known agrees eases =
+        let stack_after = on_top x stack in
+        let rest = visit_good lab t part r ts (suc v) (suc at) stack_after (omega (arith, place)) taken held.1 known.1 agrees.1 eases in
+        let next_is = visit_begins lab (suc at) part (outside before) sig.result r ts stack_after agrees.1 in
+        let l = visiting part (outside before) stack (r + 2 + suc (length ts)) in
+        let e = visiting part (outside before) stack_after (r + 2 + length ts) in
+        let goes : Eases e (lab (suc at)) = subst (λ (z : Label). Eases e z) (sym next_is) (visit_eases part (outside before) stack_after (r + 2 + length ts)) in
+        let step : Right s lab at (instr.Load v) =
+          right_by s lab at (instr.Load v) l e agrees.0
+          (record {
+            falls = omega arith;
+            knows = λ u h. inl h;
+            may_read = λ u h. subst (λ (n : ℕ). MayRead s (outside before) n) (sym (only_one u v h)) (IsKnown known.0);
+            stays = λ next h. record { field = inr refl; gathered = inr refl; visit = refl };
+            takes = ap (λ o. pushing o (Some stack)) held.0;
+            kind = making.plain s (instr.Load v) refl refl })
+          (λ next h. subst (λ (n : ℕ). Eases e (lab n)) (sym (only_one next (suc at) h)) goes)
+          (Visiting part (ap (λ (z : Label). z.visit) agrees.0) (omega (arith, place))) goes.behind in
+        let k : v + 1 ≡ suc v = omega arith in
+        (step, subst (λ (n : ℕ). Good s lab (suc at) (map instr.Load (range_with_len n (length ts)) ++ last_code t)) (sym k) rest)
