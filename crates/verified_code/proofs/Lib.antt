@@ -7,3 +7,4 @@ mod Simple
 mod Control
 mod Loops
 mod Visits
+mod Statements

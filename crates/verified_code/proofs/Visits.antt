@@ -26,7 +26,7 @@ use Rattle.body_code.specs.StatementCode.{Place, Exits, Piece, behind_piece, the
 use Rattle.body_code.specs.StatementCode as code
 use Rattle.body_code.specs.Checking.{Surroundings, Standing, Around, Checking, with_known, outside, gathering, if_so, are_met, are_known, is_partial, takes_all, are_types, is_entry, takes_gathered, has_key}
 use Rattle.body_code.specs.Checking as checking
-use Rattle.verified_code.proofs.Labels.{Behind, Anything, Accessing, Label, label, Setting, Knows, MayRead, IsKnown, Stays, Eases, eases_on, same_eases, Own, Takes, Suits, OfKind, AtAccess, InVisit, AtPart, AtLoad, Visiting, CutsAt, ToVisit, Right, Good, Agrees, good_both, agrees_left, agrees_right, Begins, Made}
+use Rattle.verified_code.proofs.Labels.{Behind, Anything, Accessing, Label, label, Setting, Knows, MayRead, IsKnown, Stays, Eases, eases_on, same_eases, Own, Takes, Suits, OfKind, AtAccess, InVisit, AtPart, AtLoad, Visiting, CutsAt, ToVisit, Right, Good, Agrees, good_both, agrees_left, agrees_right, Begins, joined, Made}
 use Rattle.verified_code.proofs.Making.{only_one, in_none, Follows, right_by, one, none, both, turning, turned}
 use Rattle.verified_code.proofs.Making as making
 use Rattle.verified_code.proofs.Typed.{none_some, some_is, is_value, are_values, pushed, without_pushed, one_off, same_are, and_left, and_right}
@@ -227,3 +227,131 @@ module _ (s : Setting) (w : Whole s) where
           (Visiting part (ap (λ (z : Label). z.visit) agrees.0) (omega (arith, place))) goes.behind in
         let k : v + 1 ≡ suc v = omega arith in
         (step, subst (λ (n : ℕ). Good s lab (suc at) (map instr.Load (range_with_len n (length ts)) ++ last_code t)) (sym k) rest)
+
+    labels_begin : (part r : ℕ) (ts : List ValueType) (stack : Stack) (after : Label) → Begins (visit_labels part (outside before) sig.result r ts stack) (visiting part (outside before) stack (r + 2 + length ts)) after
+    labels_begin part r [] stack after = (let e : r + 2 + 0 ≡ r + 2 = omega arith in subst (λ (n : ℕ). Eases (visiting part (outside before) stack n) (visiting part (outside before) stack (r + 2))) (sym e) (visit_eases part (outside before) stack (r + 2)))
+    labels_begin part r (t ∷ ts) stack after = visit_eases part (outside before) stack (r + 2 + suc (length ts))
+
+    visit_made : (Out : (ℕ → Label) → Type 0) (at t u v : ℕ) (r : ℕ) (h : Holder) → slice_get s.around.fields g.field ≡ Some h → h.is_partial ≡ true → Holds sig.arguments v → AllKnown before v sig.arguments
+        → Made s Out at (instr.Turn ∷ instr.Cut t ∷ (map instr.Load (range_with_len v (length sig.arguments)) ++ last_code u)) before [] (label (gathering sig.result st) [] r)
+    visit_made Out at t u v r h is_field partial held known =
+        let ts = sig.arguments in
+        let k = suc (suc at) in
+        let part = k + length ts + 1 in
+        let e = visiting part (outside before) [] (r + 2 + length ts) in
+        let vls = visit_labels part (outside before) sig.result r ts [] in
+        let code_v = map instr.Load (range_with_len v (length ts)) ++ last_code u in
+        let m = turned s Out at (instr.Cut t) before [] e refl
+          (record { falls = omega arith; knows = λ w k. inl k; may_read = λ w k. absurd (in_none w k); stays = λ next k. absurd (in_none next k); takes = refl; kind = entry_kind (instr.Cut t) refl entry })
+          (λ lab here behind. record {
+            plain = ap (λ (l : Label). l.visit) here;
+            turned = ap (λ (l : Label). l.behind) here;
+            to = ToVisit g.field part h is_field partial (ap (λ (l : Label). l.stack) here) behind.stays.visit (omega arith) (none_of behind.stays.field) (none_of behind.stays.gathered) }) in
+        let above_m : r + 2 + length ts ≤ m.rank = m.above in
+        let long_m = m.long in
+        let many_labels = length-append m.labels vls in
+        let many_visit = visit_many part (outside before) sig.result r ts [] in
+        let long_code = code_long v ts u in
+        record {
+          rank = m.rank;
+          above = omega (arith, above_m);
+          labels = m.labels ++ vls;
+          long = omega (arith, many_labels, many_visit, long_code, long_m);
+          begins = joined m.labels vls (label before [] m.rank) e (label (gathering sig.result st) [] r) m.begins (labels_begin part r ts [] (label (gathering sig.result st) [] r));
+          good = λ lab last last_is agrees eases out.
+            (let own_m = agrees_left lab at m.labels vls agrees in
+            let own_v : Agrees lab k vls = agrees_right lab at k m.labels vls (omega (arith, long_m)) agrees in
+            let first = visit_begins lab k part (outside before) sig.result r ts [] own_v in
+            let to_visit : Eases e (lab k) = subst (λ (z : Label). Eases e z) (sym first) (visit_eases part (outside before) [] (r + 2 + length ts)) in
+            let last_of : last ≡ suc part = omega (arith, last_is, long_code) in
+            let ends : Eases (label (gathering sig.result st) [] r) (lab (suc part)) = subst (λ (n : ℕ). Eases (label (gathering sig.result st) [] r) (lab n)) last_of eases in
+            let good_m : Good s lab at (instr.Turn ∷ instr.Cut t ∷ []) = m.good lab k (omega arith) own_m to_visit out in
+            let good_v : Good s lab k code_v = visit_good lab u part r ts v k [] (omega arith) (without_pushed ts [] meets.values) held known own_v ends in
+            (good_m.0, (good_m.1.0, good_v)));
+        }
+      where
+        code_long : (v : ℕ) (ts : List ValueType) (u : ℕ) → length (map instr.Load (range_with_len v (length ts)) ++ last_code u) ≡ length ts + 2
+        code_long v [] u = refl
+        code_long v (t ∷ ts) u = let e = code_long (v + 1) ts u in omega (arith, e)
+
+  -- ---- the whole access
+
+  pub record IsGathered (g : Gather) (o : Option Signature) (st after : Standing) : Type 0 where
+    pub sig : Signature
+    pub is : o ≡ Some sig
+    pub entry : s.around.kind ≡ source_kind.Entry
+    pub holder : Holder
+    pub is_field : slice_get s.around.fields g.field ≡ Some holder
+    pub partial : holder.is_partial ≡ true
+    pub met : IsMet s.around st (needs_of_all g.args)
+    pub typed : types_of c g.args ≡ Some sig.arguments
+    pub after_is : gathering sig.result st ≡ after
+
+  holder_is : (o : Option Holder) → is_partial o ≡ true → (h : Holder) × (o ≡ Some h) × (h.is_partial ≡ true)
+  holder_is None e = absurd (false≢true e)
+  holder_is (Some h) e = (h, refl, e)
+
+  gathered_is : (g : Gather) (o : Option Signature) (st after : Standing) → checking.gather s.around g o st ≡ Some after → IsGathered g o st after
+  gathered_is g None st after e = absurd (none_some after e)
+  gathered_is g (Some sig) st after e =
+      let a = is_entry s.around.kind in
+      let b = is_partial (slice_get s.around.fields g.field) in
+      let d = takes_all s.around st g.args sig.arguments in
+      let k = so_is (a && (b && d)) (gathering sig.result st) after e in
+      let rest = and_right a (b && d) k.0 in
+      let needed = are_met s.around st (needs_of_all g.args) in
+      let typed = are_types (types_of c g.args) sig.arguments in
+      let args = and_right b d rest in
+      let h = holder_is (slice_get s.around.fields g.field) (and_left b d rest) in
+      record {
+        sig = sig; is = refl; entry = entry_is s w s.around.kind (and_left a (b && d) k.0); holder = h.0; is_field = h.1; partial = h.2;
+        met = is_met s.around st (needs_of_all g.args) (and_left needed typed args); typed = types_are (types_of c g.args) sig.arguments (and_right needed typed args); after_is = k.1;
+      }
+
+  types_many : (xs : List Expression) (ts : List ValueType) → types_of c xs ≡ Some ts → length xs ≡ length ts
+  types_many [] ts e = ap length (some_is {A = List ValueType} [] ts e)
+  types_many (x ∷ xs) ts e = let k = with_is (type_of c x) (types_of c xs) ts e in ap suc (types_many xs k.1 k.3) ∙ ap length k.4
+
+  pub gather_done : (g : Gather) → Pieced s (code.gather (scope s) g) (λ exits st. checking.gather s.around g (checking.signature_of s.around g.field g.method) st)
+  gather_done g = record {
+    long = λ p to.
+      (let first = stored c g.args in
+      let cut_at = behind_piece p first in
+      let visit_at = behind_piece cut_at cut in
+      let e = stored_long g.args p.variable p.at in
+      let f = stored_size g.args p.variable 0 in
+      let n = loads_long visit_at.variable (length g.args) in
+      let many = length-append (first.from p to) ((then_piece cut (visit (scope s) g)).from cut_at to) in
+      let more = length-append (map instr.Load (range_with_len visit_at.variable (length g.args))) (instr.Access (code.field_name (scope s) g.field) g.method ∷ instr.Part visit_at.task ∷ []) in
+      omega (arith, e, f, n, many, more));
+    proper = λ exits st after proper e. (let k = gathered_is g (checking.signature_of s.around g.field g.method) st after e in inl k.entry);
+    grows = λ exits st after e u h. (let k = gathered_is g (checking.signature_of s.around g.field g.method) st after e in same_known s w after (gathering k.sig.result st) k.after_is u h);
+    made = λ exits st after proper e p to least r less carries.
+      (let k = gathered_is g (checking.signature_of s.around g.field g.method) st after e in
+      let meets = w.fields g.field g.method k.sig k.is in
+      let Out = Leads exits to least in
+      let first = stored c g.args in
+      let cut_at = behind_piece p first in
+      let visit_at = behind_piece cut_at cut in
+      let ts = k.sig.arguments in
+      let before = know_from p.variable ts st in
+      let carried : Carries s (flat_map var_type ts) p.variable = subst (λ (o : Option Signature). Carries s (flat_map var_type (arguments_of o)) p.variable) meets.of_code carries in
+      let held = holds ts p.variable meets.values carried in
+      let v : p.variable ≡ visit_at.variable = omega arith in
+      let many : length ts ≡ length g.args = sym (types_many g.args ts k.typed) in
+      let visited = visit_made g k.sig meets k.entry st before (know_more p.variable ts st) Out cut_at.at cut_at.task visit_at.task p.variable r k.holder k.is_field k.partial held (all_known p.variable ts st) in
+      let tail : List Instr = instr.Access (code.field_name (scope s) g.field) g.method ∷ instr.Part visit_at.task ∷ [] in
+      let by_place : Made s Out cut_at.at (instr.Turn ∷ instr.Cut cut_at.task ∷ (map instr.Load (range_with_len visit_at.variable (length ts)) ++ tail)) before [] (label (gathering k.sig.result st) [] r) =
+        subst (λ (n : ℕ). Made s Out cut_at.at (instr.Turn ∷ instr.Cut cut_at.task ∷ (map instr.Load (range_with_len n (length ts)) ++ tail)) before [] (label (gathering k.sig.result st) [] r)) v visited in
+      let rest : Made s Out cut_at.at ((then_piece cut (visit (scope s) g)).from cut_at to) before [] (label (gathering k.sig.result st) [] r) =
+        subst (λ (n : ℕ). Made s Out cut_at.at (instr.Turn ∷ instr.Cut cut_at.task ∷ (map instr.Load (range_with_len visit_at.variable n) ++ tail)) before [] (label (gathering k.sig.result st) [] r)) many by_place in
+      let long = stored_long g.args p.variable p.at in
+      let size = stored_size g.args p.variable 0 in
+      subst (λ (z : Standing). Made s Out p.at ((code.gather (scope s) g).from p to) st [] (label z [] r)) k.after_is
+      (both s Out p.at cut_at.at (first.from p to) ((then_piece cut (visit (scope s) g)).from cut_at to) st before [] [] (label (gathering k.sig.result st) [] r) (omega (arith, long, size)) rest
+        (anywhere s w Out p.at (first.from p to) st [] (label before [] rest.rank) (stored_made g.args ts p.variable st proper k.met k.typed meets.values held p.at rest.rank))));
+  }
+    where
+      loads_long : (v n : ℕ) → length (map instr.Load (range_with_len v n)) ≡ n
+      loads_long v zero = refl
+      loads_long v (suc n) = ap suc (loads_long (v + 1) n)
