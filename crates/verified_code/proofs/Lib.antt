@@ -8,3 +8,4 @@ mod Control
 mod Loops
 mod Visits
 mod Statements
+mod Classes
