@@ -238,7 +238,7 @@ module _ (s : Setting) (w : Whole s) where
     pub is_other : second exits st ≡ Some other
     pub after_is : meet st one other ≡ after
 
-  branch_is : (x : Expression) (exits : Around) (first : Checking) (second : Option Checking) (st after : Standing) → branching s.around x first second exits st ≡ Some after → IsBranch x exits first (otherwise second) st after
+  pub branch_is : (x : Expression) (exits : Around) (first : Checking) (second : Option Checking) (st after : Standing) → branching s.around x first second exits st ≡ Some after → IsBranch x exits first (otherwise second) st after
   branch_is x exits first second st after e =
       let k = if_is (takes s.around st x type.Boolean) (met st (first exits st) (otherwise second exits st)) after e in
       let m = met_is st (first exits st) (otherwise second exits st) after k.1 in
@@ -335,7 +335,7 @@ module _ (s : Setting) (w : Whole s) where
   entry_is source_kind.Helper e = absurd (false≢true e)
   entry_is source_kind.Merge e = absurd (false≢true e)
 
-  marked_is : (mark : Mark) (k : Checking) (exits : Around) (st after : Standing) → checking.marked s.around mark k exits st ≡ Some after
+  pub marked_is : (mark : Mark) (k : Checking) (exits : Around) (st after : Standing) → checking.marked s.around mark k exits st ≡ Some after
       → (s.around.kind ≡ source_kind.Entry) × (is_key_of s.around st (slice_get s.around.fields mark.field) mark.key ≡ true) × (k exits (in_block mark.field st) ≡ Some after)
   marked_is mark k exits st after e =
       let a = is_entry s.around.kind in

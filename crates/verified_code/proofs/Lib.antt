@@ -9,3 +9,5 @@ mod Loops
 mod Visits
 mod Statements
 mod Classes
+mod Early
+mod Stopping

@@ -124,7 +124,7 @@ module _ (s : Setting) (w : Whole s) where
     pub update_covers : Covers update_end start
     pub after_is : after_compound st start ≡ after
 
-  passed_is : (st : Standing) (x : Option Expression) (update : List Checking) (body : Checking) (start after : Standing) → passing s.around st x update body start ≡ Some after → IsPassed st x update body start after
+  pub passed_is : (st : Standing) (x : Option Expression) (update : List Checking) (body : Checking) (start after : Standing) → passing s.around st x update body start ≡ Some after → IsPassed st x update body start after
   passed_is st x update body start after e =
       let a = is_condition s.around start x in
       let b = ends_as start (body (Some start) start) in

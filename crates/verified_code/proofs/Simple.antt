@@ -282,7 +282,7 @@ module _ (s : Setting) (w : Whole s) where
     pub variable : variable_type c v ≡ Some t
     pub after_is : with_known v st ≡ after
 
-  assigned_is : (v : ℕ) (o : Option ValueType) (met : Bool) (st after : Standing) → assigned s.around v o met st ≡ Some after → IsAssigned v o met st after
+  pub assigned_is : (v : ℕ) (o : Option ValueType) (met : Bool) (st after : Standing) → assigned s.around v o met st ≡ Some after → IsAssigned v o met st after
   assigned_is v None met st after e = absurd (none_some after e)
   assigned_is v (Some t) false st after e = absurd (none_some after e)
   assigned_is v (Some t) true st after e =
@@ -395,7 +395,7 @@ module _ (s : Setting) (w : Whole s) where
     pub typed : types_of c a.args ≡ Some sig.arguments
     pub after_is : targeted s.around a.target sig.result st ≡ Some after
 
-  accessed_is : (a : Access) (o : Option Signature) (st after : Standing) → access s.around a o st ≡ Some after → IsAccessed a o st after
+  pub accessed_is : (a : Access) (o : Option Signature) (st after : Standing) → access s.around a o st ≡ Some after → IsAccessed a o st after
   accessed_is a None st after e = absurd (none_some after e)
   accessed_is a (Some sig) st after e = by (is_access s.around a sig st) refl e
     where
