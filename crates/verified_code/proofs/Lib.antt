@@ -11,3 +11,4 @@ mod Statements
 mod Classes
 mod Early
 mod Stopping
+mod Bodies

@@ -171,7 +171,7 @@ return_takes (Some var.Long) t e h = subst (λ (w : ValueType). returned_type (S
 return_takes (Some var.Boolean) t e h = subst (λ (w : ValueType). returned_type (Some var.Boolean) (on_top w []) ≡ Some []) e refl
 return_takes (Some var.Vector) t e h = subst (λ (w : ValueType). returned_type (Some var.Vector) (on_top w []) ≡ Some []) e refl
 
-void_takes : (o : Option VarType) (t : ValueType) → result_by o ≡ t → is_void t ≡ true → nothing_returned o [] ≡ Some []
+pub void_takes : (o : Option VarType) (t : ValueType) → result_by o ≡ t → is_void t ≡ true → nothing_returned o [] ≡ Some []
 void_takes None t e h = refl
 void_takes (Some var.Int) t e h = absurd (false≢true (subst (λ (w : ValueType). is_void w ≡ true) (sym e) h))
 void_takes (Some var.Long) t e h = absurd (false≢true (subst (λ (w : ValueType). is_void w ≡ true) (sym e) h))
