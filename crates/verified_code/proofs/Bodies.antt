@@ -352,7 +352,7 @@ module _ (s : Setting) (w : Whole s) where
 -- ---- the body
 
 module _ (class : Class) (program : Program) (tasks : List Task) (typed : IsTyped class program) where
-  many_variables : (k : MethodKind) (vs : List VariableType) → length (variables_of k vs) ≡ length vs
+  pub many_variables : (k : MethodKind) (vs : List VariableType) → length (variables_of k vs) ≡ length vs
   many_variables source_kind.Entry vs = many vs
     where
       many : (vs : List VariableType) → length (map one_of vs) ≡ length vs

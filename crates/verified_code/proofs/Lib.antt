@@ -1,14 +1,15 @@
-mod Labels
-mod Making
-mod Typed
-mod Needed
-mod Expressions
-mod Simple
-mod Control
-mod Loops
-mod Visits
-mod Statements
-mod Classes
-mod Early
-mod Stopping
-mod Bodies
+pub mod Labels
+pub mod Making
+pub mod Typed
+pub mod Needed
+pub mod Expressions
+pub mod Simple
+pub mod Control
+pub mod Loops
+pub mod Visits
+pub mod Statements
+pub mod Classes
+pub mod Early
+pub mod Stopping
+pub mod Bodies
+pub mod Clauses

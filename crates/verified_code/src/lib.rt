@@ -1,2 +1,6 @@
-//! What holds of the graph that is cut of a typed class.
+//! What holds of the code and the graph of every class whose bodies are typed.
 #![tactic(auto)]
+
+mod law;
+
+pub use law::typed_classes_are_sound;
