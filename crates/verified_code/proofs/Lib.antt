@@ -13,3 +13,4 @@ pub mod Early
 pub mod Stopping
 pub mod Bodies
 pub mod Clauses
+pub mod Shapes
