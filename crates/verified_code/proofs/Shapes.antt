@@ -241,3 +241,229 @@ module _ (c : Context) where
   pub expressions_quiet : (xs : List Expression) (at : ℕ) → Quiet (in_all (map calling xs)) ((codes_of c xs).from at)
   expressions_quiet [] at = tt
   expressions_quiet (x ∷ xs) at = then_quiet (calling x) (in_all (map calling xs)) (code_of c x) (codes_of c xs) (expression_quiet x) (expressions_quiet xs) at
+
+-- ---- statements
+
+module _ (scope : Scope) where
+  abbrev c : Context
+  c = scope.context
+
+  -- what a piece calls, and that its cuts and parts are numbered from its place on
+  pub record Shaped (piece : Piece) (ms : List ℕ) : Type 0 where
+    pub calls : (p : Place) (to : Exits) → AllCalls ms (piece.from p to)
+    pub counts : (p : Place) (to : Exits) → Counts p.task (piece.from p to) (p.task + piece.tasks)
+
+  no_tasks : (n : ℕ) (is : List Instr) → Counts n is n → Counts n is (n + 0)
+  no_tasks n is h = let e : n ≡ n + 0 = omega arith in subst (λ (m : ℕ). Counts n is m) e h
+
+  quiet_shaped : (ms : List ℕ) (a : Code) → ((at : ℕ) → Quiet ms (a.from at)) → Shaped (of_code a) ms
+  quiet_shaped ms a h = record { calls = λ p to. quiet_calls ms (a.from p.at) (h p.at); counts = λ p to. no_tasks p.task (a.from p.at) (quiet_counts ms p.task (a.from p.at) (h p.at)) }
+
+  then_shaped : (a b : Piece) (ms ns : List ℕ) → Shaped a ms → Shaped b ns → Shaped (then_piece a b) (ms ++ ns)
+  then_shaped a b ms ns h k = record {
+    calls = λ p to. calls_joined ms ns (a.from p to) (b.from (behind_piece p a) to) (h.calls p to) (k.calls (behind_piece p a) to);
+    counts = λ p to. (let e : (p.task + a.tasks) + b.tasks ≡ p.task + (a.tasks + b.tasks) = omega arith in
+      subst (λ (m : ℕ). Counts p.task (a.from p to ++ b.from (behind_piece p a) to) m) e
+      (counts_both p.task (p.task + a.tasks) ((p.task + a.tasks) + b.tasks) (a.from p to) (b.from (behind_piece p a) to) (h.counts p to) (k.counts (behind_piece p a) to)));
+  }
+
+  more_shaped : (piece : Piece) (ms ns : List ℕ) → ((n : ℕ) → is_in n ms ≡ true → is_in n ns ≡ true) → Shaped piece ms → Shaped piece ns
+  more_shaped piece ms ns more h = record { calls = λ p to. calls_more ms ns (piece.from p to) more (h.calls p to); counts = h.counts }
+
+  abbrev AllShaped : List Piece → List (List ℕ) → Type 0
+  AllShaped [] [] = Unit {0}
+  AllShaped (p ∷ ps) (ms ∷ mss) = Shaped p ms × AllShaped ps mss
+  AllShaped _ _ = ⊥
+
+  list_shaped : (ps : List Piece) (mss : List (List ℕ)) → AllShaped ps mss → Shaped (in_order ps) (in_all mss)
+  list_shaped [] [] h = quiet_shaped [] (plain []) (λ at. tt)
+  list_shaped (p ∷ ps) (ms ∷ mss) h = then_shaped p (in_order ps) ms (in_all mss) h.0 (list_shaped ps mss h.1)
+  list_shaped [] (ms ∷ mss) h = absurd h
+  list_shaped (p ∷ ps) [] h = absurd h
+
+  test_shaped : (x : Expression) → Shaped (of_code (code_of c x)) (calling x)
+  test_shaped x = quiet_shaped (calling x) (code_of c x) (expression_quiet c x)
+
+  cut_shaped : Shaped cut []
+  cut_shaped = record { calls = λ p to. (tt, (tt, tt)); counts = λ p to. (refl, (let e : suc p.task ≡ p.task + 1 = omega arith in e)) }
+
+  same_in : (ms : List ℕ) → (n : ℕ) → is_in n ms ≡ true → is_in n ms ≡ true
+  same_in ms n h = h
+
+  end_in : (ms : List ℕ) (n : ℕ) → is_in n (ms ++ []) ≡ true → is_in n ms ≡ true
+  end_in [] n k = k
+  end_in (x ∷ ms) n k = by (nat_eq n x) (end_in ms n) k
+    where
+      by : (b : Bool) → (is_in n (ms ++ []) ≡ true → is_in n ms ≡ true) → (b || is_in n (ms ++ [])) ≡ true → (b || is_in n ms) ≡ true
+      by true more k = refl
+      by false more k = more k
+
+  guarded_shaped : (over : ℕ) (a : Piece) (ms : List ℕ) → Shaped a ms → Shaped (guarded over a) ms
+  guarded_shaped over a ms h = record { calls = λ p to. (tt, h.calls (moved 1 p) to); counts = λ p to. h.counts (moved 1 p) to }
+
+  jumped_shaped : (a : Piece) (ms : List ℕ) → Shaped a ms → Shaped (jumped_over a) ms
+  jumped_shaped a ms h = record { calls = λ p to. (tt, h.calls (moved 1 p) to); counts = λ p to. h.counts (moved 1 p) to }
+
+  targeted_quiet : (t : Target) (r : ValueType) → Quiet [] (code.targeted t r)
+  targeted_quiet target.Dropped type.Int = (tt, tt)
+  targeted_quiet target.Dropped type.Long = (tt, tt)
+  targeted_quiet target.Dropped type.Boolean = (tt, tt)
+  targeted_quiet target.Dropped type.Vector = (tt, tt)
+  targeted_quiet target.Dropped type.Void = tt
+  targeted_quiet (target.Variable v) r = (tt, tt)
+  targeted_quiet target.Returned r = (tt, tt)
+
+  dropped_quiet : (ms : List ℕ) (o : Option ValueType) → Quiet ms (dropped o)
+  dropped_quiet ms None = tt
+  dropped_quiet ms (Some type.Int) = (tt, tt)
+  dropped_quiet ms (Some type.Long) = (tt, tt)
+  dropped_quiet ms (Some type.Boolean) = (tt, tt)
+  dropped_quiet ms (Some type.Vector) = (tt, tt)
+  dropped_quiet ms (Some type.Void) = tt
+
+  accessing_shaped : (name : List ℕ) (a : Access) (r : ValueType) → Shaped (of_code (plain (instr.Access name a.method ∷ code.targeted a.target r))) []
+  accessing_shaped name a r = record {
+    calls = λ p to. (tt, quiet_calls [] (code.targeted a.target r) (targeted_quiet a.target r));
+    counts = λ p to. no_tasks p.task (code.targeted a.target r) (quiet_counts [] p.task (code.targeted a.target r) (targeted_quiet a.target r));
+  }
+
+  access_shaped : (a : Access) → Shaped (of_code (code.access scope a)) (in_all (map calling a.args))
+  access_shaped a =
+      let args = in_all (map calling a.args) in
+      let first = quiet_shaped args (codes_of c a.args) (expressions_quiet c a.args) in
+      let r = result_of (signature_of scope a.field a.method) in
+      let second = accessing_shaped (field_name scope a.field) a r in
+      record {
+        calls = λ p to. calls_both args ((codes_of c a.args).from p.at) (instr.Access (field_name scope a.field) a.method ∷ code.targeted a.target r) (first.calls p to)
+          (calls_more [] args (instr.Access (field_name scope a.field) a.method ∷ code.targeted a.target r) (λ n h. absurd (false≢true h)) (second.calls p to));
+        counts = λ p to. (let e : p.task + 0 ≡ p.task = omega arith in
+          counts_both p.task p.task (p.task + 0) ((codes_of c a.args).from p.at) (instr.Access (field_name scope a.field) a.method ∷ code.targeted a.target r)
+            (quiet_counts args p.task ((codes_of c a.args).from p.at) (expressions_quiet c a.args p.at)) (second.counts p to));
+      }
+
+  stored_quiet : (xs : List Expression) (v at : ℕ) → Quiet (in_all (map calling xs)) ((stored_from c xs v).from at)
+  stored_quiet [] v at = tt
+  stored_quiet (x ∷ xs) v at =
+      quiet_joined (calling x) (in_all (map calling xs)) ((behind (code_of c x) (instr.Store v)).from at) ((stored_from c xs (suc v)).from (at + (behind (code_of c x) (instr.Store v)).size))
+      (quiet_both (calling x) ((code_of c x).from at) (instr.Store v ∷ []) (expression_quiet c x at) (tt, tt)) (stored_quiet xs (suc v) (at + (behind (code_of c x) (instr.Store v)).size))
+
+  stored_shaped : (xs : List Expression) → Shaped (stored c xs) (in_all (map calling xs))
+  stored_shaped xs = record {
+    calls = λ p to. quiet_calls (in_all (map calling xs)) ((stored_from c xs p.variable).from p.at) (stored_quiet xs p.variable p.at);
+    counts = λ p to. no_tasks p.task ((stored_from c xs p.variable).from p.at) (quiet_counts (in_all (map calling xs)) p.task ((stored_from c xs p.variable).from p.at) (stored_quiet xs p.variable p.at));
+  }
+
+  loads_quiet : (v n : ℕ) → Quiet [] (map instr.Load (range_with_len v n))
+  loads_quiet v zero = tt
+  loads_quiet v (suc n) = (tt, loads_quiet (v + 1) n)
+
+  visit_shaped : (g : Gather) → Shaped (visit scope g) []
+  visit_shaped g = record {
+    calls = λ p to. calls_both [] (map instr.Load (range_with_len p.variable (length g.args))) (instr.Access (field_name scope g.field) g.method ∷ instr.Part p.task ∷ [])
+      (quiet_calls [] (map instr.Load (range_with_len p.variable (length g.args))) (loads_quiet p.variable (length g.args))) (tt, (tt, tt));
+    counts = λ p to. counts_both p.task p.task (p.task + 1) (map instr.Load (range_with_len p.variable (length g.args))) (instr.Access (field_name scope g.field) g.method ∷ instr.Part p.task ∷ [])
+      (quiet_counts [] p.task (map instr.Load (range_with_len p.variable (length g.args))) (loads_quiet p.variable (length g.args))) (refl, (let e : suc p.task ≡ p.task + 1 = omega arith in e));
+  }
+
+  gather_shaped : (g : Gather) → Shaped (code.gather scope g) (in_all (map calling g.args))
+  gather_shaped g =
+      let args = in_all (map calling g.args) in
+      more_shaped (code.gather scope g) (args ++ []) args (end_in args) (then_shaped (stored c g.args) (then_piece cut (visit scope g)) args [] (stored_shaped g.args) (then_shaped cut (visit scope g) [] [] cut_shaped (visit_shaped g)))
+
+  key_shaped : (key : Option Expression) → Shaped (of_code (key_code scope key)) (calling_maybe key)
+  key_shaped None = quiet_shaped [] (plain []) (λ at. tt)
+  key_shaped (Some key) = test_shaped key
+
+  tested_shaped : (x : Option Expression) → Shaped (tested c x) (calling_maybe x)
+  tested_shaped None = quiet_shaped [] (plain []) (λ at. tt)
+  tested_shaped (Some x) = record {
+    calls = λ p to. calls_both (calling x) ((code_of c x).from p.at) (instr.IfFalse to.break_to ∷ []) (quiet_calls (calling x) ((code_of c x).from p.at) (expression_quiet c x p.at)) (tt, tt);
+    counts = λ p to. no_tasks p.task ((code_of c x).from p.at ++ instr.IfFalse to.break_to ∷ []) (counts_both p.task p.task p.task ((code_of c x).from p.at) (instr.IfFalse to.break_to ∷ []) (quiet_counts (calling x) p.task ((code_of c x).from p.at) (expression_quiet c x p.at)) refl);
+  }
+
+  turn_shaped : Shaped (of_instructions (instr.Turn ∷ [])) []
+  turn_shaped = quiet_shaped [] (plain (instr.Turn ∷ [])) (λ at. (tt, tt))
+
+  back_shaped : (again : ℕ) → Shaped (of_instructions (instr.Jump again ∷ [])) []
+  back_shaped again = quiet_shaped [] (plain (instr.Jump again ∷ [])) (λ at. (tt, tt))
+
+  pass_shaped : (x : Option Expression) (update : List Piece) (body : Piece) (again : ℕ) (ns ms : List ℕ) → Shaped (in_order update) ns → Shaped body ms → Shaped (pass c x update body again) (calling_maybe x ++ (ms ++ ns))
+  pass_shaped x update body again ns ms u b =
+      let last = then_shaped (of_instructions (instr.Jump again ∷ [])) (in_order []) [] [] (back_shaped again) (quiet_shaped [] (plain []) (λ at. tt)) in
+      let tail = more_shaped (in_order (in_order update ∷ of_instructions (instr.Jump again ∷ []) ∷ [])) (ns ++ []) ns (end_in ns) (then_shaped (in_order update) (in_order (of_instructions (instr.Jump again ∷ []) ∷ [])) ns [] u last) in
+      then_shaped (tested c x) (in_order (of_instructions (instr.Turn ∷ []) ∷ body ∷ in_order update ∷ of_instructions (instr.Jump again ∷ []) ∷ [])) (calling_maybe x) (ms ++ ns) (tested_shaped x)
+      (then_shaped (of_instructions (instr.Turn ∷ [])) (in_order (body ∷ in_order update ∷ of_instructions (instr.Jump again ∷ []) ∷ [])) [] (ms ++ ns) turn_shaped
+        (then_shaped body (in_order (in_order update ∷ of_instructions (instr.Jump again ∷ []) ∷ [])) ms ns b tail))
+
+  passes_shaped : (x : Option Expression) (update : List Piece) (body : Piece) (ns ms : List ℕ) → Shaped (in_order update) ns → Shaped body ms → Shaped (passes c x update body) (calling_maybe x ++ (ms ++ ns))
+  passes_shaped x update body ns ms u b = record {
+    calls = λ p to. (pass_shaped x update body p.at ns ms u b).calls p (record { break_to = p.at + (pass c x update body 0).size; continue_to = next_pass p.at (p.at + (tested c x).size + 1 + body.size) update });
+    counts = λ p to. (pass_shaped x update body p.at ns ms u b).counts p (record { break_to = p.at + (pass c x update body 0).size; continue_to = next_pass p.at (p.at + (tested c x).size + 1 + body.size) update });
+  }
+
+  abbrev Well : Statement → Type 0
+  Well st = Shaped (piece_of scope st) (called_in st)
+
+  abbrev One : Type 0
+  One = (st : Statement) × Well st
+
+  abbrev bare_one : Statement-F One → Statement-F Statement
+  bare_one = map-Statement One Statement (λ p. p.0)
+
+  abbrev bare_ones : List One → List Statement
+  bare_ones ps = map (λ (p : One). p.0) ps
+
+  ones_shaped : (ps : List One) → AllShaped (map (piece_of scope) (bare_ones ps)) (map called_in (bare_ones ps))
+  ones_shaped [] = tt
+  ones_shaped (p ∷ ps) = (p.1, ones_shaped ps)
+
+  ones_in_order : (ps : List One) → Shaped (in_order (map (piece_of scope) (bare_ones ps))) (in_all (map called_in (bare_ones ps)))
+  ones_in_order ps = list_shaped (map (piece_of scope) (bare_ones ps)) (map called_in (bare_ones ps)) (ones_shaped ps)
+
+  statement_layer : (y : Statement-F One) → Shaped (piece_step scope (map-Statement Statement Piece (piece_of scope) (bare_one y))) (called_step (map-Statement Statement (List ℕ) called_in (bare_one y)))
+  statement_layer (s.Assign v x) = quiet_shaped (calling x) (behind (code_of c x) (instr.Store v)) (λ at. quiet_both (calling x) ((code_of c x).from at) (instr.Store v ∷ []) (expression_quiet c x at) (tt, tt))
+  statement_layer (s.SetElement v i x) =
+      quiet_shaped (calling i ++ calling x) (behind (followed_by (code_of c i) (code_of c x)) (instr.VectorSet v))
+      (λ at. quiet_both (calling i ++ calling x) ((followed_by (code_of c i) (code_of c x)).from at) (instr.VectorSet v ∷ [])
+        (quiet_joined (calling i) (calling x) ((code_of c i).from at) ((code_of c x).from (at + (code_of c i).size)) (expression_quiet c i at) (expression_quiet c x (at + (code_of c i).size))) (tt, tt))
+  statement_layer (s.Evaluate x) =
+      quiet_shaped (calling x) (followed_by (code_of c x) (plain (dropped (type_of c x)))) (λ at. quiet_both (calling x) ((code_of c x).from at) (dropped (type_of c x)) (expression_quiet c x at) (dropped_quiet (calling x) (type_of c x)))
+  statement_layer (s.Access a) = access_shaped a
+  statement_layer (s.Gather g) = gather_shaped g
+  statement_layer (s.Marked mark body) =
+      then_shaped (of_code (key_code scope mark.key)) (then_piece cut (piece_of scope body.0)) (calling_maybe mark.key) (called_in body.0) (key_shaped mark.key) (then_shaped cut (piece_of scope body.0) [] (called_in body.0) cut_shaped body.1)
+  statement_layer (s.Opened body) = body.1
+  statement_layer (s.Block items) = ones_in_order items
+  statement_layer (s.If test first None) =
+      then_shaped (of_code (code_of c test)) (guarded 0 (piece_of scope first.0)) (calling test) (called_in first.0 ++ []) (test_shaped test)
+      (more_shaped (guarded 0 (piece_of scope first.0)) (called_in first.0) (called_in first.0 ++ []) (λ n h. in_left n (called_in first.0) [] h) (guarded_shaped 0 (piece_of scope first.0) (called_in first.0) first.1))
+  statement_layer (s.If test first (Some second)) =
+      then_shaped (of_code (code_of c test)) (then_piece (guarded 1 (piece_of scope first.0)) (jumped_over (piece_of scope second.0))) (calling test) (called_in first.0 ++ called_in second.0) (test_shaped test)
+      (then_shaped (guarded 1 (piece_of scope first.0)) (jumped_over (piece_of scope second.0)) (called_in first.0) (called_in second.0)
+        (guarded_shaped 1 (piece_of scope first.0) (called_in first.0) first.1) (jumped_shaped (piece_of scope second.0) (called_in second.0) second.1))
+  statement_layer (s.Loop start test update body) =
+      then_shaped (in_order (map (piece_of scope) (bare_ones start))) (passes c test (map (piece_of scope) (bare_ones update)) (piece_of scope body.0))
+      (in_all (map called_in (bare_ones start))) (calling_maybe test ++ (called_in body.0 ++ in_all (map called_in (bare_ones update)))) (ones_in_order start)
+      (passes_shaped test (map (piece_of scope) (bare_ones update)) (piece_of scope body.0) (in_all (map called_in (bare_ones update))) (called_in body.0) (ones_in_order update) body.1)
+  statement_layer s.Break = record { calls = λ p to. (tt, tt); counts = λ p to. no_tasks p.task (instr.Jump to.break_to ∷ []) refl }
+  statement_layer s.Continue = record { calls = λ p to. (tt, tt); counts = λ p to. no_tasks p.task (instr.Jump to.continue_to ∷ []) refl }
+  statement_layer (s.Return None) = quiet_shaped [] (plain (instr.ReturnVoid ∷ [])) (λ at. (tt, tt))
+  statement_layer (s.Return (Some x)) = quiet_shaped (calling x) (behind (code_of c x) instr.Return) (λ at. quiet_both (calling x) ((code_of c x).from at) (instr.Return ∷ []) (expression_quiet c x at) (tt, tt))
+
+  statement_made : (x : Statement-F Statement) (y : Statement-F One) → bare_one y ≡ x → Well (roll-Statement x)
+  statement_made x y is =
+      let piece = fold-roll-Statement Piece (piece_step scope) x in
+      let called = fold-roll-Statement (List ℕ) called_step x in
+      let P : Statement-F Statement → Type 0 = λ z. Shaped (piece_step scope (map-Statement Statement Piece (piece_of scope) z)) (called_step (map-Statement Statement (List ℕ) called_in z)) in
+      let all : P x = subst P is (statement_layer y) in
+      subst (λ (p : Piece). Shaped p (called_in (roll-Statement x))) (sym piece) (subst (λ (ms : List ℕ). Shaped (piece_step scope (map-Statement Statement Piece (piece_of scope) x)) ms) (sym called) all)
+
+  statement_shaped : (st : Statement) → Well st
+  statement_shaped = ind-Statement Well statement_made
+
+  all_shaped : (xs : List Statement) → AllShaped (map (piece_of scope) xs) (map called_in xs)
+  all_shaped [] = tt
+  all_shaped (x ∷ xs) = (statement_shaped x, all_shaped xs)
+
+  pub statements_shaped : (xs : List Statement) → Shaped (pieces_of scope xs) (in_all (map called_in xs))
+  statements_shaped xs = list_shaped (map (piece_of scope) xs) (map called_in xs) (all_shaped xs)
