@@ -14,3 +14,5 @@ pub mod Stopping
 pub mod Bodies
 pub mod Clauses
 pub mod Shapes
+pub mod Cutting
+pub mod Counting
