@@ -16,3 +16,4 @@ pub mod Clauses
 pub mod Shapes
 pub mod Cutting
 pub mod Counting
+pub mod Tasks

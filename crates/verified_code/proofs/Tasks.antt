@@ -1,0 +1,175 @@
+-- What the tasks of a typed class carry, and where they begin.
+use Rattle.std.proofs.Common.{◌≡◌, ◌≢◌, refl, sym, ap, subst, ◌∙◌, ℕ, zero, suc, ◌+◌, ◌<◌, ◌≤◌, arith, Bool, true, false, List, [], ◌∷◌, length, take, drop, Option, Some, None, slice_get, ◌⊎◌, inl, inr}
+use Rattle.std.specs.List.{range_with_len}
+use Rattle.std.proofs.lemmas.Bool.{false≢true}
+use Rattle.state_classes.specs.declared.method.Method.{Method}
+use Rattle.java_tree.specs.declared.tree.Class.{Class}
+use Rattle.java_tree.specs.declared.method_kinds.MethodKind.TheVariants as source_kind
+use Rattle.flat_code.specs.declared.graph.Flat.{Flat}
+use Rattle.flat_code.specs.declared.graph.Graph.{Graph}
+use Rattle.flat_code.specs.declared.graph.GraphField.{GraphField}
+use Rattle.flat_code.specs.declared.graph.GraphMethod.{GraphMethod}
+use Rattle.flat_code.specs.declared.graph.Instr.{Instr}
+use Rattle.flat_code.specs.declared.graph.Instr.TheVariants as instr
+use Rattle.flat_code.specs.declared.graph.MethodKind.TheVariants as method_kind
+use Rattle.flat_code.specs.declared.graph.Task.{Task}
+use Rattle.flat_code.specs.declared.graph.TaskKind.{TaskKind}
+use Rattle.flat_code.specs.declared.graph.TaskKind.TheVariants as kind
+use Rattle.flat_code.specs.Fits.{parameters}
+use Rattle.flat_code.specs.Types.{field_named}
+use Rattle.flat_code.specs.Ways.{IsIn, IsFirst, IsLater, needs, reads, writes, variables_of, IsLive, IsRead, IsReadLater, IsNeeded, NeededHere, NeededLater}
+use Rattle.flat_code.specs.Verified.{IsTask, IsMethod, HasCode, HasStart, SpendsBefore, IsJumpTo, IsOnlyBehind, IsBehindTurn, IsBehindAccess}
+use Rattle.access_blocks.specs.declared.body.Program.{Program}
+use Rattle.body_code.specs.ClassCode.{code_of_class, graph_kind}
+use Rattle.body_code.specs.Checking.{Standing, IsTyped}
+use Rattle.live_vars.specs.Sets.{AreLive, AreLiveSets}
+use Rattle.task_cutter.specs.Tasks.{graph_of, first_field, is_visit, cut_kind, kind_by, is_partitioned}
+use Rattle.task_cutter.specs.Numbers.{ends, start_number, number_behind, HasEntryCode, IsStart, IsBehind, AreCutBehind}
+use Rattle.verified_code.proofs.Labels.{Behind, Anything, Turning, Accessing, Setting, MayRead, Suits, Right}
+use Rattle.verified_code.proofs.Making.{next_is}
+use Rattle.verified_code.proofs.Typed.{none_some, some_is}
+use Rattle.verified_code.proofs.Classes.{own, setting}
+use Rattle.verified_code.proofs.Bodies.{Labelled, at_first, get_within, below_or}
+use Rattle.verified_code.proofs.Clauses.{Lays, lays, needed_known, first_read}
+use Rattle.verified_code.proofs.Cutting.{tasks_are_cut}
+use Rattle.verified_code.proofs.Counting.{EndsAt, IsCut, IsPart, ends_at, method_with, entry_count, cut_named, part_named}
+
+-- ---- places behind a turn or an access
+
+module _ (s : Setting) (first : Standing) (code : List Instr) (l : Labelled s first code) where
+  pub before_is : (at : ℕ) (b : Behind) → (l.lab at).behind ≡ b → b ≢ Anything → at < length code → (before : ℕ) × (i : Instr) × (at ≡ suc before) × (slice_get code before ≡ Some i) × Suits i b
+  before_is zero b e other within = absurd (other (sym e ∙ l.first_is.behind))
+  before_is (suc at) b e other within = by (slice_get code at) refl
+    where
+      by : (o : Option Instr) → slice_get code at ≡ o → (before : ℕ) × (i : Instr) × (suc at ≡ suc before) × (slice_get code before ≡ Some i) × Suits i b
+      by (Some i) is = (at, i, refl, is, subst (λ (x : Behind). Suits i x) e (l.right at i is).suits)
+      by None is = absurd (let h = there code at (omega (arith, within)) in none_some h.0 (sym is ∙ h.1))
+        where
+          there : {A : Type 0} (xs : List A) (n : ℕ) → n < length xs → (x : A) × (slice_get xs n ≡ Some x)
+          there [] n h = absurd (omega (arith, h))
+          there (x ∷ xs) zero h = (x, refl)
+          there (x ∷ xs) (suc n) h = there xs n (omega (arith, h))
+
+turning_turn : (i : Instr) → Suits i Turning → i ≡ instr.Turn
+turning_turn i h = h
+
+accessing_access : (i : Instr) → Suits i Accessing → (name : List ℕ) × (m : Method) × (i ≡ instr.Access name m)
+accessing_access (instr.Access name m) h = (name, m, refl)
+accessing_access _ h = absurd h
+
+same_or_above : (v at : ℕ) → at ≤ v → (v ≡ at) ⊎ (at < v)
+same_or_above v at least = elim (below_or at v) [ inl less ↦ inr less | inr most ↦ inl (omega (arith, least, most)) ]
+
+range_has : (v at n : ℕ) → at ≤ v → v < at + n → IsIn v (range_with_len at n)
+range_has v at zero least less = absurd (omega (arith, least, less))
+range_has v at (suc n) least less =
+    elim (same_or_above v at least) [
+      | inl e ↦ subst (λ (k : ℕ). IsIn v (k ∷ range_with_len (at + 1) n)) e (IsFirst (range_with_len (at + 1) n))
+      | inr above ↦ IsLater at (range_with_len (at + 1) n) (range_has v (at + 1) n (omega (arith, above)) (omega (arith, less)))
+    ]
+
+no_start_kind : (fields : List GraphField) (name : Option (List ℕ)) (visit : Bool) → cut_kind fields name visit ≢ kind.Start
+no_start_kind fields None visit e = by false visit e
+  where
+    by : (a b : Bool) → kind_by a b ≢ kind.Start
+    by true b e = absurd (cc)
+    by false true e = absurd (cc)
+    by false false e = absurd (cc)
+no_start_kind fields (Some name) visit e = by (is_partitioned (field_named name fields)) visit e
+  where
+    by : (a b : Bool) → kind_by a b ≢ kind.Start
+    by true b e = absurd (cc)
+    by false true e = absurd (cc)
+    by false false e = absurd (cc)
+
+-- ---- the tasks of a class
+
+module _ (class : Class) (program : Program) (live : List (List (List ℕ))) (typed : IsTyped class program) (sets : AreLiveSets (code_of_class class program).methods live) where
+  abbrev flat : Flat
+  flat = code_of_class class program
+
+  abbrev graph : Graph
+  graph = graph_of flat live
+
+  abbrev behinds : AreCutBehind flat graph
+  behinds = tasks_are_cut flat live sets
+
+  -- what a task is: the start of a method, or what stands behind a cut or a part
+  pub data TaskIs (k : ℕ) (t : Task) : Type 0 where
+    Starts : (n : ℕ) (m : GraphMethod) → IsMethod graph n m → k ≡ start_number flat.methods n → t.method ≡ n → t.at ≡ 0 → t.kind ≡ kind.Start → t.vars ≡ parameters m → TaskIs k t
+    BehindCut : (n at u : ℕ) (m : GraphMethod) → IsMethod graph n m → slice_get m.code at ≡ Some (instr.Cut u) → t.method ≡ n → t.at ≡ suc at → t.kind ≢ kind.Start → AreLive m.code (suc at) t.vars → TaskIs k t
+    BehindPart : (n at u : ℕ) (m : GraphMethod) → IsMethod graph n m → slice_get m.code at ≡ Some (instr.Part u) → t.method ≡ n → t.at ≡ suc at → t.kind ≡ kind.Join → AreLive m.code (suc at) t.vars → TaskIs k t
+
+  same_task : (k j : ℕ) (t u : Task) → IsTask graph k t → k ≡ j → IsTask graph j u → u ≡ t
+  same_task k j t u is e other = some_is u t (sym other ∙ ap (slice_get graph.tasks) (sym e) ∙ is)
+
+  by_cut : (k n at u : ℕ) (m : GraphMethod) (t : Task) → IsTask graph k t → k ≡ number_behind flat.methods n m at → HasEntryCode flat.methods n m at (instr.Cut u) → TaskIs k t
+  by_cut k n at u m t is number code =
+      let c = behinds.cuts n at u m code in
+      let same = same_task k (number_behind flat.methods n m at) t c.of is number c.is_task in
+      BehindCut n at u m code.is_method code.is_code (ap (λ (x : Task). x.method) (sym same) ∙ c.in_method) (ap (λ (x : Task). x.at) (sym same) ∙ c.right_behind)
+        (λ e. no_start_kind flat.fields (first_field (drop (suc at) m.code)) (is_visit (drop (suc at) m.code)) (sym c.has_kind ∙ ap (λ (x : Task). x.kind) same ∙ e))
+        (subst (λ (x : Task). AreLive m.code (suc at) x.vars) same c.variables)
+
+  by_part : (k n at u : ℕ) (m : GraphMethod) (t : Task) → IsTask graph k t → k ≡ number_behind flat.methods n m at → HasEntryCode flat.methods n m at (instr.Part u) → TaskIs k t
+  by_part k n at u m t is number code =
+      let c = behinds.parts n at u m code in
+      let same = same_task k (number_behind flat.methods n m at) t c.of is number c.is_task in
+      BehindPart n at u m code.is_method code.is_code (ap (λ (x : Task). x.method) (sym same) ∙ c.in_method) (ap (λ (x : Task). x.at) (sym same) ∙ c.right_behind)
+        (ap (λ (x : Task). x.kind) (sym same) ∙ c.has_kind) (subst (λ (x : Task). AreLive m.code (suc at) x.vars) same c.variables)
+
+  by_start : (k n : ℕ) (m : GraphMethod) (t : Task) → IsTask graph k t → IsMethod graph n m → m.kind ≡ method_kind.Entry → k ≡ start_number flat.methods n → TaskIs k t
+  by_start k n m t is is_m entry number =
+      let c = behinds.starts n m is_m entry in
+      let same = same_task k (start_number flat.methods n) t c.of is number c.is_task in
+      Starts n m is_m number (ap (λ (x : Task). x.method) (sym same) ∙ c.in_method) (ap (λ (x : Task). x.at) (sym same) ∙ c.at_first) (ap (λ (x : Task). x.kind) (sym same) ∙ c.starts) (ap (λ (x : Task). x.vars) (sym same) ∙ c.variables)
+
+  pub task_is : (k : ℕ) (t : Task) → IsTask graph k t → TaskIs k t
+  task_is k t is =
+      let within = get_within graph.tasks k t is in
+      let many = behinds.as_many in
+      let w = method_with flat.methods k (omega (arith, within, many)) in
+      let entry = entry_count w.m w.m.kind w.j w.few in
+      by w.n w.m w.is_method entry.0 w.j entry.1 w.is
+    where
+      by : (n : ℕ) (m : GraphMethod) → IsMethod graph n m → m.kind ≡ method_kind.Entry → (j : ℕ) → j < suc (ends m.code) → k ≡ start_number flat.methods n + j → TaskIs k t
+      by n m is_m entry zero few number = by_start k n m t is is_m entry (omega (arith, number))
+      by n m is_m entry (suc e) few number =
+          elim (ends_at m.code e (omega (arith, few))) [
+            | IsCut at u code same ↦ by_cut k n at u m t is (omega (arith, number, same)) (record { is_method = is_m; is_entry = entry; is_code = code })
+            | IsPart at u code same ↦ by_part k n at u m t is (omega (arith, number, same)) (record { is_method = is_m; is_entry = entry; is_code = code })
+          ]
+
+  pub starts : (n : ℕ) (m : GraphMethod) → IsMethod graph n m → m.kind ≡ method_kind.Entry → HasStart graph n
+  starts n m is entry =
+      let c = behinds.starts n m is entry in
+      record {
+        number = start_number flat.methods n; of = c.of; is_task = c.is_task; is_start = c.starts; of_method = c.in_method;
+        only = λ k t is_task is_start in_method. (elim (task_is k t is_task) [
+          | Starts o x is_x number own_method at_first starting vars ↦ number ∙ ap (start_number flat.methods) (sym own_method ∙ in_method)
+          | BehindCut o at u x is_x code own_method behind other vars ↦ absurd (other is_start)
+          | BehindPart o at u x is_x code own_method behind joins vars ↦ absurd (let e : kind.Join ≡ kind.Start = sym joins ∙ is_start in cc)
+        ]);
+      }
+
+  -- No task begins right behind anything but a cut or a part.
+  abbrev IsEnd : Instr → Type 0
+  IsEnd (instr.Cut t) = Unit {0}
+  IsEnd (instr.Part t) = Unit {0}
+  IsEnd _ = ⊥
+
+  no_task : (n before : ℕ) (m : GraphMethod) (i : Instr) → IsMethod graph n m → slice_get m.code before ≡ Some i → (IsEnd i → ⊥) → (k : ℕ) (t : Task) → IsTask graph k t → t.method ≡ n → t.at ≢ suc before
+  no_task n before m i is code plain k t is_task in_method at =
+      elim (task_is k t is_task) [
+        | Starts o x is_x number own_method at_first starting vars ↦ (omega (arith, at, at_first))
+        | BehindCut o place u x is_x cut own_method behind other vars ↦
+          (let same : m ≡ x = some_is m x (sym is ∙ ap (slice_get graph.methods) (sym in_method ∙ own_method) ∙ is_x) in
+          let here : before ≡ place = omega (arith, at, behind) in
+          let both : i ≡ instr.Cut u = some_is i (instr.Cut u) (sym code ∙ ap (λ (y : GraphMethod). slice_get y.code before) same ∙ ap (slice_get x.code) here ∙ cut) in
+          plain (subst IsEnd (sym both) tt))
+        | BehindPart o place u x is_x cut own_method behind joins vars ↦
+          (let same : m ≡ x = some_is m x (sym is ∙ ap (slice_get graph.methods) (sym in_method ∙ own_method) ∙ is_x) in
+          let here : before ≡ place = omega (arith, at, behind) in
+          let both : i ≡ instr.Part u = some_is i (instr.Part u) (sym code ∙ ap (λ (y : GraphMethod). slice_get y.code before) same ∙ ap (slice_get x.code) here ∙ cut) in
+          plain (subst IsEnd (sym both) tt))
+      ]
