@@ -23,7 +23,6 @@ use Rattle.body_code.specs.declared.callee.Callee.{Callee}
 use Rattle.body_code.specs.Early.{is_in}
 use Rattle.body_code.specs.ClassCode.{graph_kind, graph_method, graph_methods, graph_fields, tasks_of, body_piece, variables_of as flat_variables, members_of}
 use Rattle.body_code.specs.Checking.{Standing, known_parameters, IsOne, IsTypedBody, IsTyped}
-use Rattle.verified_code.specs.Sound.{IsSound, TypedClassesAreSound}
 use Rattle.verified_code.proofs.Labels.{Label, Setting, Knows, MayRead, IsKnown, IsCollection, Right, OfKind}
 use Rattle.verified_code.proofs.Making.{next_is, in_none}
 use Rattle.verified_code.proofs.Typed.{none_some, some_is}
@@ -98,7 +97,7 @@ of_body source_kind.Merge i entry merge = by (is_of_entry i) entry
     by false h = refl
 
 
-methods_many : (fs : List GraphField) (ks : List Callee) (ms : List Method) (bs : List Body) (task : ℕ) → length ms ≡ length bs → length (graph_methods fs ks ms bs task) ≡ length ms
+pub methods_many : (fs : List GraphField) (ks : List Callee) (ms : List Method) (bs : List Body) (task : ℕ) → length ms ≡ length bs → length (graph_methods fs ks ms bs task) ≡ length ms
 methods_many fs ks [] [] task e = refl
 methods_many fs ks [] (b ∷ bs) task e = absurd (omega (arith, e))
 methods_many fs ks (m ∷ ms) [] task e = absurd (omega (arith, e))
@@ -139,7 +138,7 @@ module _ (class : Class) (program : Program) (tasks : List Task) (typed : IsType
   first_read m b task v body l (IsKnown k) = known_first b.kind b.arity v (l.first_is.known v k)
   first_read m b task v body l (IsCollection t e z) = one_parameter b.kind b.arity v body.one ((whole class program tasks typed m b task).fit.merging t e) z
 
-  parameters_few : (n : ℕ) (gm : GraphMethod) → IsMethod (graph class program tasks) n gm → gm.params ≤ length gm.vars
+  pub parameters_few : (n : ℕ) (gm : GraphMethod) → IsMethod (graph class program tasks) n gm → gm.params ≤ length gm.vars
   parameters_few n gm e =
       let k = lays n gm e in
       let carried = map One (body_piece (fields class program tasks) (cs class program tasks) k.b).carried in
@@ -148,12 +147,12 @@ module _ (class : Class) (program : Program) (tasks : List Task) (typed : IsType
       let few = k.body.arity in
       subst (λ (z : GraphMethod). z.params ≤ length z.vars) k.is (omega (arith, many, both, few))
 
-  bodies_right : (n : ℕ) (gm : GraphMethod) (at : ℕ) (i : Instr) → IsMethod (graph class program tasks) n gm → slice_get gm.code at ≡ Some i → IsOfBody gm.kind i
+  pub bodies_right : (n : ℕ) (gm : GraphMethod) (at : ℕ) (i : Instr) → IsMethod (graph class program tasks) n gm → slice_get gm.code at ≡ Some i → IsOfBody gm.kind i
   bodies_right n gm at i e =
       let k = lays n gm e in
       subst (λ (z : GraphMethod). slice_get z.code at ≡ Some i → IsOfBody z.kind i) k.is (λ is. (let r = k.labels.right at i is in of_body k.b.kind i r.kind.entry r.kind.merge))
 
-  turns_spent : (n : ℕ) (gm : GraphMethod) (at : ℕ) → IsMethod (graph class program tasks) n gm → IsFree gm.code at at → ⊥
+  pub turns_spent : (n : ℕ) (gm : GraphMethod) (at : ℕ) → IsMethod (graph class program tasks) n gm → IsFree gm.code at at → ⊥
   turns_spent n gm at e =
       let k = lays n gm e in
       subst (λ (z : GraphMethod). IsFree z.code at at → ⊥) k.is (no_free (setting class program tasks k.m k.b k.task) (at_first k.b) (own class program tasks k.m k.b k.task).code k.labels at)
@@ -161,7 +160,7 @@ module _ (class : Class) (program : Program) (tasks : List Task) (typed : IsType
   is_entry : (k : MethodKind) → k ≡ source_kind.Entry → graph_kind k ≡ method_kind.Entry
   is_entry k e = ap graph_kind e
 
-  helpers_read : (n : ℕ) (gm : GraphMethod) (v : ℕ) → IsMethod (graph class program tasks) n gm → gm.kind ≢ method_kind.Entry → IsNeeded tasks gm.code v 0 → v < gm.params
+  pub helpers_read : (n : ℕ) (gm : GraphMethod) (v : ℕ) → IsMethod (graph class program tasks) n gm → gm.kind ≢ method_kind.Entry → IsNeeded tasks gm.code v 0 → v < gm.params
   helpers_read n gm v e =
       let k = lays n gm e in
       subst (λ (z : GraphMethod). z.kind ≢ method_kind.Entry → IsNeeded tasks z.code v 0 → v < z.params) k.is (λ no_entry needed.
@@ -169,32 +168,16 @@ module _ (class : Class) (program : Program) (tasks : List Task) (typed : IsType
         (needed_known (setting class program tasks k.m k.b k.task) (at_first k.b) (own class program tasks k.m k.b k.task).code k.labels tasks
           (λ at t u is h. absurd (no_entry (is_entry k.b.kind ((k.labels.right at (instr.Cut t) is).kind.entry refl)))) v 0 needed))
 
-  fields_sound : AreNames (map (λ (field : GraphField). field.name) (fields class program tasks))
+  pub fields_sound : AreNames (map (λ (field : GraphField). field.name) (fields class program tasks))
   fields_sound = subst AreNames (sym (names_same (fields_in class.members) program.fields typed.same_fields)) typed.names.field_names
 
-  methods_sound : AreNames (map (λ (m : GraphMethod). m.name) (graph class program tasks).methods)
+  pub methods_sound : AreNames (map (λ (m : GraphMethod). m.name) (graph class program tasks).methods)
   methods_sound = subst AreNames (sym (method_names_same (fields class program tasks) (cs class program tasks) (methods_in class.members) program.methods 0 typed.same_methods)) typed.names.method_names
 
-  few : length (fields class program tasks) ≤ 64
+  pub few : length (fields class program tasks) ≤ 64
   few =
       let same = ap length (names_same (fields_in class.members) program.fields typed.same_fields) in
       let one = many_names (λ (field : GraphField). field.name) (fields class program tasks) in
       let other = many_names (λ f. f.name) (fields_in class.members) in
       let most = typed.names.few_fields in
       omega (arith, same, one, other, most)
-
-  pub class_sound : IsSound (graph class program tasks)
-  class_sound = record {
-    few_fields = few;
-    few_methods = (let same = methods_many (fields class program tasks) (cs class program tasks) (methods_in class.members) program.methods 0 typed.same_methods in let most = typed.names.few_methods in omega (arith, same, most));
-    field_names = fields_sound;
-    method_names = methods_sound;
-    parameters = parameters_few;
-    bodies = bodies_right;
-    helpers = helpers_read;
-    turns = turns_spent;
-  }
-
-pub typed_classes_are_sound : TypedClassesAreSound
-unfolding TypedClassesAreSound
-typed_classes_are_sound class program tasks typed = class_sound class program tasks typed

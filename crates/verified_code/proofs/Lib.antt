@@ -17,3 +17,5 @@ pub mod Shapes
 pub mod Cutting
 pub mod Counting
 pub mod Tasks
+pub mod Sound
+pub mod WellCut

@@ -25,11 +25,12 @@ use Rattle.body_code.specs.Checking.{Standing, IsTyped}
 use Rattle.live_vars.specs.Sets.{AreLive, AreLiveSets}
 use Rattle.task_cutter.specs.Tasks.{graph_of, first_field, is_visit, cut_kind, kind_by, is_partitioned}
 use Rattle.task_cutter.specs.Numbers.{ends, start_number, number_behind, HasEntryCode, IsStart, IsBehind, AreCutBehind}
-use Rattle.verified_code.proofs.Labels.{Behind, Anything, Turning, Accessing, Setting, MayRead, Suits, Right}
+use Rattle.verified_code.proofs.Labels.{Behind, Anything, Turning, Accessing, Label, Setting, MayRead, IsKnown, IsCollection, Suits, Right}
 use Rattle.verified_code.proofs.Making.{next_is}
 use Rattle.verified_code.proofs.Typed.{none_some, some_is}
 use Rattle.verified_code.proofs.Classes.{own, setting}
 use Rattle.verified_code.proofs.Bodies.{Labelled, at_first, get_within, below_or}
+use Rattle.verified_code.proofs.Bodies as bodies
 use Rattle.verified_code.proofs.Clauses.{Lays, lays, needed_known, first_read}
 use Rattle.verified_code.proofs.Cutting.{tasks_are_cut}
 use Rattle.verified_code.proofs.Counting.{EndsAt, IsCut, IsPart, ends_at, method_with, entry_count, cut_named, part_named}
@@ -49,6 +50,16 @@ module _ (s : Setting) (first : Standing) (code : List Instr) (l : Labelled s fi
           there [] n h = absurd (omega (arith, h))
           there (x ∷ xs) zero h = (x, refl)
           there (x ∷ xs) (suc n) h = there xs n (omega (arith, h))
+
+module _ (s : Setting) (first : Standing) (code : List Instr) (l : Labelled s first code) where
+  -- what is live may be read
+  pub live_known : (v at : ℕ) → IsLive code v at → MayRead s (l.lab at).standing v
+  live_known v at (IsRead a i is h) = (l.right a i is).may_read v h
+  live_known v at (IsReadLater a next i is clear goes later) = by (live_known v next later)
+    where
+      by : MayRead s (l.lab next).standing v → MayRead s (l.lab a).standing v
+      by (IsKnown k) = elim ((l.right a i is).knows next goes v k) [ inl known ↦ IsKnown known | inr writing ↦ absurd (clear writing) ]
+      by (IsCollection t e z) = IsCollection t e z
 
 turning_turn : (i : Instr) → Suits i Turning → i ≡ instr.Turn
 turning_turn i h = h
@@ -172,4 +183,102 @@ module _ (class : Class) (program : Program) (live : List (List (List ℕ))) (ty
           let here : before ≡ place = omega (arith, at, behind) in
           let both : i ≡ instr.Part u = some_is i (instr.Part u) (sym code ∙ ap (λ (y : GraphMethod). slice_get y.code before) same ∙ ap (slice_get x.code) here ∙ cut) in
           plain (subst IsEnd (sym both) tt))
+      ]
+
+  -- ---- behind turns and accesses
+
+  abbrev Of : (n : ℕ) (m : GraphMethod) → Type 0
+  Of n m = Lays class program graph.tasks typed n m
+
+  labels_of : (n : ℕ) (m : GraphMethod) (k : Of n m) → Labelled (setting class program graph.tasks k.m k.b k.task) (at_first k.b) m.code
+  labels_of n m k = subst (λ (z : GraphMethod). Labelled (setting class program graph.tasks k.m k.b k.task) (at_first k.b) z.code) k.is k.labels
+
+  spends_behind : (s : Setting) (lab : ℕ → Label) (at : ℕ) (i : Instr) → Right s lab at i → SpendsBefore i → (lab at).behind ≡ Turning
+  spends_behind s lab at (instr.Cut t) r h = r.own.turned
+  spends_behind s lab at (instr.Call n) r h = r.own.turned
+  spends_behind s lab at (instr.Merge n) r h = r.own.turned
+  spends_behind s lab at _ r h = absurd h
+
+  same_method : (n : ℕ) (m x : GraphMethod) → IsMethod graph n m → IsMethod graph n x → x ≡ m
+  same_method n m x e f = some_is x m (sym f ∙ e)
+
+  only_behind : (n at before : ℕ) (m : GraphMethod) (i : Instr) (b : Behind) (is : IsMethod graph n m) (k : Of n m) → ((labels_of n m k).lab at).behind ≡ b → b ≢ Anything → at ≡ suc before → slice_get m.code before ≡ Some i → (IsEnd i → ⊥)
+      → IsOnlyBehind graph n at before
+  only_behind n at before m i b is k behind other place code plain = record {
+    behind = place;
+    no_jump = λ o j h jumps.
+      (let here : slice_get m.code o ≡ Some j = subst (λ (z : GraphMethod). slice_get z.code o ≡ Some j) (same_method n m h.of is h.is_method) h.is_code in
+      other (sym behind ∙ ((labels_of n m k).right o j here).jumps at jumps));
+    no_start = λ q t is_task in_method at_place. no_task n before m i is code plain q t is_task in_method (at_place ∙ place);
+  }
+
+  pub spends : (n at : ℕ) (i : Instr) → HasCode graph n at i → SpendsBefore i → IsBehindTurn graph n at
+  spends n at i h spending =
+      let k = lays class program graph.tasks typed n h.of h.is_method in
+      let l = labels_of n h.of k in
+      let behind = spends_behind (setting class program graph.tasks k.m k.b k.task) l.lab at i (l.right at i h.is_code) spending in
+      let no_turn : Turning ≢ Anything = (λ e. cc) in
+      let b = before_is (setting class program graph.tasks k.m k.b k.task) (at_first k.b) h.of.code l at Turning behind no_turn (get_within h.of.code at i h.is_code) in
+      let turn : slice_get h.of.code b.0 ≡ Some instr.Turn = b.3 ∙ ap Some (turning_turn b.1 b.4) in
+      record {
+        before = b.0;
+        only = only_behind n at b.0 h.of instr.Turn Turning h.is_method k behind no_turn b.2 turn (λ e. e);
+        turn = record { of = h.of; is_method = h.is_method; is_code = turn };
+      }
+
+  pub accesses : (n at t : ℕ) → HasCode graph n at (instr.Part t) → IsBehindAccess graph n at
+  accesses n at t h =
+      let k = lays class program graph.tasks typed n h.of h.is_method in
+      let l = labels_of n h.of k in
+      let behind = (l.right at (instr.Part t) h.is_code).own.behind in
+      let no_access : Accessing ≢ Anything = (λ e. cc) in
+      let b = before_is (setting class program graph.tasks k.m k.b k.task) (at_first k.b) h.of.code l at Accessing behind no_access (get_within h.of.code at (instr.Part t) h.is_code) in
+      let a = accessing_access b.1 b.4 in
+      let access : slice_get h.of.code b.0 ≡ Some (instr.Access a.0 a.1) = b.3 ∙ ap Some a.2 in
+      record {
+        before = b.0;
+        only = only_behind n at b.0 h.of (instr.Access a.0 a.1) Accessing h.is_method k behind no_access b.2 access (λ e. e);
+        name = a.0;
+        of = a.1;
+        access = record { of = h.of; is_method = h.is_method; is_code = access };
+      }
+
+  -- ---- what is carried
+
+  carried_live : (n at u v : ℕ) (m : GraphMethod) → IsMethod graph n m → slice_get m.code at ≡ Some (instr.Cut u) → IsIn v (variables_of (slice_get graph.tasks u)) → IsLive m.code v (suc at)
+  carried_live n at u v m is code h =
+      let k = lays class program graph.tasks typed n m is in
+      let l = labels_of n m k in
+      let entry : m.kind ≡ method_kind.Entry = ap (λ (z : GraphMethod). z.kind) (sym k.is) ∙ ap graph_kind ((l.right at (instr.Cut u) code).kind.entry refl) in
+      let c = behinds.cuts n at u m (record { is_method = is; is_entry = entry; is_code = code }) in
+      let number = cut_named class program graph.tasks typed n at u m is entry code in
+      let its : slice_get graph.tasks u ≡ Some c.of = ap (slice_get graph.tasks) number ∙ c.is_task in
+      c.variables.live v (subst (λ (o : Option Task). IsIn v (variables_of o)) its h)
+
+  pub needed_live : (n : ℕ) (m : GraphMethod) → IsMethod graph n m → (v at : ℕ) → IsNeeded graph.tasks m.code v at → IsLive m.code v at
+  needed_live n m is v at (NeededHere a i code h) = by i code h
+    where
+      by : (i : Instr) → slice_get m.code a ≡ Some i → IsIn v (needs graph.tasks i) → IsLive m.code v a
+      by (instr.Cut u) code h = IsReadLater a (suc a) (instr.Cut u) code (none_some v) (IsFirst []) (carried_live n a u v m is code h)
+      by i code h = IsRead a i code h
+  needed_live n m is v at (NeededLater a next i code clear goes later) = IsReadLater a next i code clear (next_is a i next goes) (needed_live n m is v next later)
+
+  pub variables : (q : ℕ) (t : Task) (m : GraphMethod) (v : ℕ) → IsTask graph q t → IsMethod graph t.method m → IsNeeded graph.tasks m.code v t.at → IsIn v t.vars
+  variables q t m v is_task is needed =
+      let alive = needed_live t.method m is v t.at needed in
+      elim (task_is q t is_task) [
+        | Starts o x is_x number own_method at_first starting vars ↦
+          (let same : x ≡ m = same_method t.method m x is (ap (slice_get graph.methods) own_method ∙ is_x) in
+          let k = lays class program graph.tasks typed t.method m is in
+          let live_first : IsLive m.code v 0 = subst (λ (a : ℕ). IsLive m.code v a) at_first alive in
+          let live_own : IsLive (own class program graph.tasks k.m k.b k.task).code v 0 = subst (λ (z : GraphMethod). IsLive z.code v 0) (sym k.is) live_first in
+          let known = live_known (setting class program graph.tasks k.m k.b k.task) (bodies.at_first k.b) (own class program graph.tasks k.m k.b k.task).code k.labels v 0 live_own in
+          let few : v < m.params = subst (λ (z : GraphMethod). v < z.params) k.is (first_read class program graph.tasks typed k.m k.b k.task v k.body k.labels known) in
+          subst (λ (vs : List ℕ). IsIn v vs) (sym (vars ∙ ap parameters same)) (range_has v 0 m.params (omega arith) (omega (arith, few))))
+        | BehindCut o at u x is_x code own_method behind other vars ↦
+          (let same : x ≡ m = same_method t.method m x is (ap (slice_get graph.methods) own_method ∙ is_x) in
+          vars.whole v (subst (λ (z : GraphMethod). IsLive z.code v (suc at)) (sym same) (subst (λ (a : ℕ). IsLive m.code v a) behind alive)))
+        | BehindPart o at u x is_x code own_method behind joins vars ↦
+          (let same : x ≡ m = same_method t.method m x is (ap (slice_get graph.methods) own_method ∙ is_x) in
+          vars.whole v (subst (λ (z : GraphMethod). IsLive z.code v (suc at)) (sym same) (subst (λ (a : ℕ). IsLive m.code v a) behind alive)))
       ]

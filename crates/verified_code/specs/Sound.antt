@@ -8,7 +8,7 @@ use Rattle.flat_code.specs.declared.graph.Instr.{Instr}
 use Rattle.flat_code.specs.declared.graph.MethodKind.TheVariants as method_kind
 use Rattle.flat_code.specs.declared.graph.Task.{Task}
 use Rattle.flat_code.specs.Ways.{IsFree, IsNeeded}
-use Rattle.flat_code.specs.Verified.{AreNames, IsMethod, IsOfBody}
+use Rattle.flat_code.specs.Verified.{AreNames, IsMethod, IsOfBody, Calls}
 use Rattle.access_blocks.specs.declared.body.Program.{Program}
 use Rattle.body_code.specs.Checking.{IsTyped}
 use Rattle.body_code.specs.ClassCode.{code_of_class}
@@ -27,6 +27,7 @@ pub record IsSound (graph : Graph) : Type 0 where
   pub bodies : (n : ℕ) (m : GraphMethod) (at : ℕ) (i : Instr) → IsMethod graph n m → slice_get m.code at ≡ Some i → IsOfBody m.kind i
   -- what a helper or a merge method reads is a parameter, or it is written before
   pub helpers : (n : ℕ) (m : GraphMethod) (v : ℕ) → IsMethod graph n m → m.kind ≢ method_kind.Entry → IsNeeded graph.tasks m.code v 0 → v < m.params
+  pub no_cycle : (n : ℕ) → Calls graph n n → ⊥
   -- every way back spends a turn
   pub turns : (n : ℕ) (m : GraphMethod) (at : ℕ) → IsMethod graph n m → IsFree m.code at at → ⊥
 

@@ -1,0 +1,27 @@
+-- Well cut graphs: what the graph that is cut of every class whose bodies are typed is.
+use Rattle.std.specs.Prelude.{◌≡◌, ℕ, List, Some, slice_get}
+use Rattle.java_tree.specs.declared.tree.Class.{Class}
+use Rattle.flat_code.specs.declared.graph.Graph.{Graph}
+use Rattle.flat_code.specs.declared.graph.GraphMethod.{GraphMethod}
+use Rattle.flat_code.specs.declared.graph.Instr.{Instr}
+use Rattle.flat_code.specs.declared.graph.Instr.TheVariants as instr
+use Rattle.flat_code.specs.declared.graph.MethodKind.TheVariants as method_kind
+use Rattle.flat_code.specs.declared.graph.Task.{Task}
+use Rattle.flat_code.specs.Ways.{IsIn, IsNeeded}
+use Rattle.flat_code.specs.Verified.{IsMethod, IsTask, HasCode, HasStart, SpendsBefore, IsBehindTurn, IsBehindAccess}
+use Rattle.access_blocks.specs.declared.body.Program.{Program}
+use Rattle.body_code.specs.Checking.{IsTyped}
+use Rattle.body_code.specs.ClassCode.{code_of_class}
+use Rattle.live_vars.specs.Sets.{AreLiveSets}
+use Rattle.task_cutter.specs.Tasks.{graph_of}
+
+pub record IsWellCut (graph : Graph) : Type 0 where
+  pub starts : (n : ℕ) (m : GraphMethod) → IsMethod graph n m → m.kind ≡ method_kind.Entry → HasStart graph n
+  -- what a task needs is carried to it
+  pub variables : (n : ℕ) (t : Task) (m : GraphMethod) (v : ℕ) → IsTask graph n t → IsMethod graph t.method m → IsNeeded graph.tasks m.code v t.at → IsIn v t.vars
+  pub spends : (method at : ℕ) (i : Instr) → HasCode graph method at i → SpendsBefore i → IsBehindTurn graph method at
+  pub accesses : (method at n : ℕ) → HasCode graph method at (instr.Part n) → IsBehindAccess graph method at
+
+unfoldable pub TypedClassesAreWellCut : Type 0
+TypedClassesAreWellCut = (class : Class) (program : Program) (live : List (List (List ℕ))) → IsTyped class program → AreLiveSets (code_of_class class program).methods live
+    → IsWellCut (graph_of (code_of_class class program) live)
