@@ -1,5 +1,5 @@
 -- The whole code of a typed body has labels, and no way leaves it.
-use Rattle.std.proofs.Common.{◌≡◌, ◌≢◌, refl, sym, ap, subst, ◌∙◌, ℕ, zero, suc, ◌+◌, ◌<◌, ◌≤◌, arith, Bool, true, false, cond, List, [], ◌∷◌, ◌++◌, map, length, length-append, Option, Some, None, slice_get, ◌⊎◌, inl, inr}
+use Rattle.std.proofs.Common.{◌≡◌, refl, sym, ap, subst, ◌∙◌, ℕ, zero, suc, ◌+◌, ◌<◌, ◌≤◌, arith, Bool, true, false, cond, List, [], ◌∷◌, ◌++◌, map, length, length-append, Option, Some, None, slice_get, ◌⊎◌, inl, inr}
 use Rattle.std.specs.Prelude.{nat_eq, pos, ◌||◌}
 use Rattle.std.specs.List.{flat_map, list_any, range_with_len}
 use Rattle.std.proofs.lemmas.Bool.{false≢true, eqb-true, eq-eqb}
@@ -15,30 +15,28 @@ use Rattle.flat_code.specs.declared.graph.Instr.{Instr}
 use Rattle.flat_code.specs.declared.graph.Instr.TheVariants as instr
 use Rattle.flat_code.specs.declared.graph.Task.{Task}
 use Rattle.flat_code.specs.declared.graph.VarType.{VarType}
-use Rattle.flat_code.specs.declared.graph.VariableType.{VariableType as FlatType}
-use Rattle.flat_code.specs.declared.graph.VariableType.TheVariants.{One, Collection}
-use Rattle.flat_code.specs.Types.{type_by, one_type, in_variable, type_of_variable}
-use Rattle.flat_code.specs.Ways.{IsIn, IsFirst, next_of, next_in_task, reads, writes}
+use Rattle.flat_code.specs.declared.graph.VariableType.TheVariants.{One}
+use Rattle.flat_code.specs.Types.{one_type, in_variable}
+use Rattle.flat_code.specs.Ways.{IsIn, next_of, reads, writes}
 use Rattle.flat_code.specs.Verified.{Stack, on_top, IsJumpTo}
 use Rattle.access_blocks.specs.declared.body.Body.{Body}
 use Rattle.access_blocks.specs.declared.body.Program.{Program}
-use Rattle.body_code.specs.Early.{is_in, early, early_after, all_of, assigned_in}
+use Rattle.body_code.specs.Early.{is_in, early, all_of, assigned_in}
 use Rattle.body_code.specs.Typing.{variable_type, variable_type_in}
 use Rattle.body_code.specs.Typing as typing
 use Rattle.body_code.specs.Completing.{body_completes}
-use Rattle.body_code.specs.StatementCode.{Place, Exits, Piece, pieces_of}
-use Rattle.body_code.specs.ClassCode.{var_type_by, start_code, start_of, set_at_start, started, body_place, no_exits, is_jump_to, ending, ended, body_piece, body_code, one_of, with_collection, variables_of, result_type}
-use Rattle.body_code.specs.Checking.{Surroundings, Standing, with_known, known_parameters, at_start, is_void, IsTypedBody, IsTyped}
-use Rattle.verified_code.proofs.Labels.{Behind, Anything, Turning, Label, label, Setting, Knows, MayRead, Stays, Eases, eases_on, same_eases, Own, Takes, Suits, OfKind, AtAccess, InBlock, InVisit, AtCut, ToBlock, ToVisit, AtLoad, Plainly, Visiting, Right, Good, Agrees, Begins, begins_with, Made}
+use Rattle.body_code.specs.ClassCode.{var_type_by, start_code, start_of, set_at_start, started, body_place, no_exits, is_jump_to, ending, body_piece, one_of, variables_of, result_type}
+use Rattle.body_code.specs.Checking.{Standing, with_known, known_parameters, at_start, is_void, IsTypedBody, IsTyped}
+use Rattle.verified_code.proofs.Labels.{Anything, Turning, Label, label, Setting, Knows, Eases, same_eases, Own, Takes, OfKind, AtAccess, InBlock, InVisit, AtCut, ToBlock, ToVisit, AtLoad, Plainly, Visiting, Right, Good, Agrees, begins_with, Made}
 use Rattle.verified_code.proofs.Making.{in_none, only_one, one_or_other, Follows, one, last, none, both, jump}
 use Rattle.verified_code.proofs.Making as making
 use Rattle.verified_code.proofs.Typed.{none_some, some_is}
-use Rattle.verified_code.proofs.Expressions.{Proper, Anywhere}
-use Rattle.verified_code.proofs.Simple.{Whole, Carries, Pieced, Covers, known_more, still_known, now_known, store_made, void_takes, or_is}
-use Rattle.verified_code.proofs.Control.{get_left, get_right, from_more, turn_right}
+use Rattle.verified_code.proofs.Expressions.{Anywhere}
+use Rattle.verified_code.proofs.Simple.{Whole, Carries, Covers, still_known, now_known, store_made, void_takes, or_is}
+use Rattle.verified_code.proofs.Control.{get_right, from_more, turn_right}
 use Rattle.verified_code.proofs.Statements.{statements_done}
-use Rattle.verified_code.proofs.Classes.{setting, whole, own, fields, cs, result_same}
-use Rattle.verified_code.proofs.Early.{HasType, AllHave, AllTyped, early_have, statements_typed}
+use Rattle.verified_code.proofs.Classes.{setting, whole, own, fields, cs}
+use Rattle.verified_code.proofs.Early.{HasType, AllHave, early_have, statements_typed}
 use Rattle.verified_code.proofs.Stopping.{Ends, Stops, stops_behind, statements_halt}
 
 abbrev pub at_first : Body → Standing

@@ -1,11 +1,9 @@
 -- The methods and the fields of a typed class are as its bodies take them to be.
-use Rattle.std.proofs.Common.{◌≡◌, ◌≢◌, refl, sym, ap, subst, ◌∙◌, ℕ, zero, suc, ◌+◌, ◌<◌, ◌≤◌, arith, Bool, true, false, cond, ◌&&◌, List, [], ◌∷◌, ◌++◌, map, length, Option, Some, None, slice_get, ◌⊎◌, inl, inr}
+use Rattle.std.proofs.Common.{◌≡◌, refl, sym, ap, subst, ◌∙◌, ℕ, zero, suc, ◌+◌, ◌≤◌, arith, Bool, true, false, cond, List, [], ◌∷◌, ◌++◌, map, length, Option, Some, None, slice_get}
 use Rattle.std.specs.Str.{bytes_eq}
 use Rattle.std.specs.List.{range_with_len}
-use Rattle.std.proofs.lemmas.Bool.{false≢true}
 use Rattle.std.proofs.lemmas.Slice.Eq.{bytes_eq-Decides}
 use Rattle.sdg_base.specs.declared.value_type.ValueType.{ValueType}
-use Rattle.sdg_base.specs.declared.value_type.ValueType.TheVariants as type
 use Rattle.sdg_base.specs.Signatures.{Signature}
 use Rattle.state_classes.specs.declared.method.Method.{Method as StateMethod}
 use Rattle.state_classes.specs.Methods.{signature}
@@ -22,10 +20,9 @@ use Rattle.flat_code.specs.declared.graph.Graph.{Graph}
 use Rattle.flat_code.specs.declared.graph.GraphField.{GraphField}
 use Rattle.flat_code.specs.declared.graph.GraphMethod.{GraphMethod}
 use Rattle.flat_code.specs.declared.graph.Task.{Task}
-use Rattle.flat_code.specs.declared.graph.VarType.{VarType}
 use Rattle.flat_code.specs.declared.graph.VariableType.{VariableType as FlatType}
-use Rattle.flat_code.specs.declared.graph.VariableType.TheVariants.{One, Collection}
-use Rattle.flat_code.specs.Types.{type_by, result_by, one_type, member_type, in_variable, type_of_variable, members_of_variable, field_named, signature_in, signature_at}
+use Rattle.flat_code.specs.declared.graph.VariableType.TheVariants.{One}
+use Rattle.flat_code.specs.Types.{type_by, result_by, one_type, member_type, in_variable, type_of_variable, field_named, signature_in, signature_at}
 use Rattle.flat_code.specs.Fits.{parameters}
 use Rattle.flat_code.specs.Verified.{AreDistinct, types_of_variables, with_first_type}
 use Rattle.access_blocks.specs.declared.body.Body.{Body}
@@ -38,15 +35,14 @@ use Rattle.body_code.specs.Typing.{Context, variable_type, variable_type_in}
 use Rattle.body_code.specs.Typing as typing
 use Rattle.body_code.specs.StatementCode.{name_in}
 use Rattle.body_code.specs.StatementCode as code
-use Rattle.body_code.specs.ClassCode.{kind_by, graph_field, graph_fields, var_type_by, result_of, result_type, taken_types, callee, callees, first_type, members_of, context_of, scope_of, body_piece, graph_kind, one_of, with_collection, variables_of, graph_method, tasks_of, graph_methods, fields_of, callees_of}
+use Rattle.body_code.specs.ClassCode.{kind_by, graph_field, graph_fields, var_type_by, result_of, result_type, taken_types, callee, callees, members_of, context_of, body_piece, one_of, variables_of, graph_method, tasks_of, graph_methods, fields_of, callees_of}
 use Rattle.body_code.specs.Checking.{Surroundings, surroundings, IsOne, IsTypedBody, AreNamed, IsTyped}
 use Rattle.body_code.specs.Checking as checking
 use Rattle.verified_code.proofs.Labels.{Setting}
 use Rattle.verified_code.proofs.Typed.{none_some, some_is, is_value, are_values, arguments_values}
 use Rattle.verified_code.proofs.Needed.{and_both}
-use Rattle.verified_code.proofs.Expressions.{Meets, Fitting}
+use Rattle.verified_code.proofs.Expressions.{Meets}
 use Rattle.verified_code.proofs.Simple.{Whole, FieldMeets}
-use Rattle.verified_code.proofs.Control.{get_left, get_right}
 
 -- ---- types by their names
 

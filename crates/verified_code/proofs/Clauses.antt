@@ -1,6 +1,6 @@
 -- What the labels of its bodies say of the code of a typed class.
-use Rattle.std.proofs.Common.{◌≡◌, ◌≢◌, refl, sym, ap, subst, ◌∙◌, ℕ, zero, suc, ◌+◌, ◌<◌, ◌≤◌, arith, Bool, true, false, List, [], ◌∷◌, ◌++◌, map, length, length-append, Option, Some, None, slice_get, ◌⊎◌, inl, inr}
-use Rattle.std.specs.Prelude.{nat_eq, ◌||◌}
+use Rattle.std.proofs.Common.{◌≡◌, ◌≢◌, refl, sym, ap, subst, ℕ, zero, suc, ◌+◌, ◌<◌, ◌≤◌, arith, Bool, true, false, List, [], ◌∷◌, map, length, length-append, Some, slice_get, inl, inr}
+use Rattle.std.specs.Prelude.{nat_eq}
 use Rattle.std.specs.List.{range_with_len}
 use Rattle.std.proofs.lemmas.Bool.{false≢true, eqb-true}
 use Rattle.java_tree.specs.declared.tree.Class.{Class}
@@ -14,20 +14,19 @@ use Rattle.flat_code.specs.declared.graph.Instr.TheVariants as instr
 use Rattle.flat_code.specs.declared.graph.MethodKind.TheVariants as method_kind
 use Rattle.flat_code.specs.declared.graph.Task.{Task}
 use Rattle.flat_code.specs.declared.graph.VariableType.TheVariants.{One}
-use Rattle.flat_code.specs.Ways.{IsIn, next_of, next_in_task, reads, writes, needs, variables_of, IsFree, One as FreeOne, More, IsNeeded, NeededHere, NeededLater}
+use Rattle.flat_code.specs.Ways.{IsIn, needs, variables_of, IsFree, One as FreeOne, More, IsNeeded, NeededHere, NeededLater}
 use Rattle.flat_code.specs.Verified.{AreNames, IsMethod, IsOfBody, is_of_entry, is_of_merge}
 use Rattle.access_blocks.specs.declared.body.Body.{Body}
 use Rattle.access_blocks.specs.declared.body.Program.{Program}
 use Rattle.access_blocks.specs.Programs.{fields_in, methods_in}
 use Rattle.body_code.specs.declared.callee.Callee.{Callee}
 use Rattle.body_code.specs.Early.{is_in}
-use Rattle.body_code.specs.ClassCode.{graph_kind, graph_method, graph_methods, graph_fields, tasks_of, body_piece, variables_of as flat_variables, members_of}
+use Rattle.body_code.specs.ClassCode.{graph_kind, graph_methods, tasks_of, body_piece, variables_of as flat_variables}
 use Rattle.body_code.specs.Checking.{Standing, known_parameters, IsOne, IsTypedBody, IsTyped}
-use Rattle.verified_code.proofs.Labels.{Label, Setting, Knows, MayRead, IsKnown, IsCollection, Right, OfKind}
-use Rattle.verified_code.proofs.Making.{next_is, in_none}
-use Rattle.verified_code.proofs.Typed.{none_some, some_is}
-use Rattle.verified_code.proofs.Simple.{Whole, or_is}
-use Rattle.verified_code.proofs.Classes.{MethodOf, method_of, graph, own, fields, cs, setting, whole, first_task, names_same}
+use Rattle.verified_code.proofs.Labels.{Setting, MayRead, IsKnown, IsCollection}
+use Rattle.verified_code.proofs.Making.{next_is}
+use Rattle.verified_code.proofs.Simple.{or_is}
+use Rattle.verified_code.proofs.Classes.{method_of, graph, own, fields, cs, setting, whole, first_task, names_same}
 use Rattle.verified_code.proofs.Bodies.{Labelled, at_first, body_labels, many_variables}
 
 -- ---- of one body

@@ -1,8 +1,7 @@
 -- The labels of statements with statements inside.
-use Rattle.std.proofs.Common.{◌≡◌, ◌≢◌, refl, sym, ap, subst, ◌∙◌, ℕ, zero, suc, ◌+◌, ◌<◌, ◌≤◌, arith, Bool, true, false, cond, ◌&&◌, List, [], ◌∷◌, ◌++◌, map, length, length-append, Option, Some, None, slice_get, ◌⊎◌, inl, inr}
-use Rattle.std.specs.Prelude.{not, ◌||◌}
+use Rattle.std.proofs.Common.{◌≡◌, refl, sym, ap, subst, ◌∙◌, ℕ, zero, suc, ◌+◌, ◌≤◌, arith, Bool, true, false, cond, ◌&&◌, List, [], ◌∷◌, ◌++◌, length, length-append, Option, Some, None, slice_get, ◌⊎◌, inl, inr}
+use Rattle.std.specs.Prelude.{not}
 use Rattle.std.proofs.lemmas.Bool.{false≢true}
-use Rattle.sdg_base.specs.declared.value_type.ValueType.{ValueType}
 use Rattle.sdg_base.specs.declared.value_type.ValueType.TheVariants as type
 use Rattle.java_tree.specs.declared.method_kinds.MethodKind.{MethodKind}
 use Rattle.java_tree.specs.declared.method_kinds.MethodKind.TheVariants as source_kind
@@ -10,23 +9,23 @@ use Rattle.flat_code.specs.declared.graph.Instr.{Instr}
 use Rattle.flat_code.specs.declared.graph.Instr.TheVariants as instr
 use Rattle.flat_code.specs.declared.graph.VarType.{VarType}
 use Rattle.flat_code.specs.Types.{type_by, type_of_variable}
-use Rattle.flat_code.specs.Ways.{IsIn, next_of, reads, writes}
-use Rattle.flat_code.specs.Verified.{Stack, on_top}
+use Rattle.flat_code.specs.Ways.{IsIn}
+use Rattle.flat_code.specs.Verified.{Stack}
 use Rattle.access_blocks.specs.declared.body.Expression.{Expression}
 use Rattle.access_blocks.specs.declared.body.Holder.{Holder}
 use Rattle.access_blocks.specs.declared.body.Mark.{Mark}
 use Rattle.body_code.specs.Typing.{Context}
-use Rattle.body_code.specs.Codes.{Code, plain, nothing, followed_by}
-use Rattle.body_code.specs.ExpressionCode.{code_of, behind}
-use Rattle.body_code.specs.StatementCode.{Place, Exits, Piece, moved, behind_piece, of_code, of_instructions, then_piece, in_order, cut, key_code, marked, guarded, jumped_over, branches, tested, pass, next_pass, passes, looped}
+use Rattle.body_code.specs.Codes.{nothing}
+use Rattle.body_code.specs.ExpressionCode.{code_of}
+use Rattle.body_code.specs.StatementCode.{Piece, moved, behind_piece, of_code, then_piece, in_order, cut, key_code, marked, guarded, jumped_over, branches}
 use Rattle.body_code.specs.Checking.{Surroundings, Standing, Around, Checking, if_so, with_known, outside, in_block, after_compound, same_number, same_value, common, meet, takes, is_entry, is_key_of, next, opened, compound, met, otherwise, branching, is_condition, ends_as, passing, looping, is_partitioned}
 use Rattle.body_code.specs.Checking as checking
-use Rattle.verified_code.proofs.Labels.{Behind, Anything, Label, label, Setting, Knows, MayRead, Stays, Eases, eases_on, same_eases, Own, Takes, Suits, OfKind, CutsAt, ToBlock, KeyIs, Right, Good, Agrees, good_both, agrees_left, agrees_right, Begins, begins_with, Made}
+use Rattle.verified_code.proofs.Labels.{Behind, Label, label, Setting, Knows, Stays, Eases, eases_on, same_eases, Takes, Suits, ToBlock, KeyIs, Right, Good, Agrees, Begins, begins_with, Made}
 use Rattle.verified_code.proofs.Making.{only_one, in_none, Follows, right_by, none, eased, within, both, jump, test, if_else, turning, turned}
 use Rattle.verified_code.proofs.Making as making
 use Rattle.verified_code.proofs.Typed.{none_some, some_is, and_left, and_right}
 use Rattle.verified_code.proofs.Expressions.{Proper, Anywhere, behind_place}
-use Rattle.verified_code.proofs.Simple.{Whole, scope, Leads, Carries, Pieced, so_is, type_is, number_is, value_is, Covers, covers_is, covered, TypedBy, takes_is, value_made, value_long, anywhere, same_standing, same_known}
+use Rattle.verified_code.proofs.Simple.{Whole, scope, Leads, Carries, Pieced, number_is, value_is, Covers, covers_is, covered, TypedBy, takes_is, value_made, value_long, anywhere, same_standing, same_known}
 
 pub get_left : {A : Type 0} (xs ys : List A) (k : ℕ) (x : A) → slice_get xs k ≡ Some x → slice_get (xs ++ ys) k ≡ Some x
 get_left [] ys k x e = absurd (none_some x e)

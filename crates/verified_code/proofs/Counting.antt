@@ -1,8 +1,6 @@
 -- The numbers that cuts and parts name are those of the tasks behind them, and there is no other task.
-use Rattle.std.proofs.Common.{◌≡◌, ◌≢◌, refl, sym, ap, subst, ◌∙◌, ℕ, zero, suc, ◌+◌, ◌-◌, ◌<◌, ◌≤◌, arith, Bool, true, false, cond, List, [], ◌∷◌, ◌++◌, map, length, length-append, take, drop, Option, Some, None, slice_get, ◌⊎◌, inl, inr}
-use Rattle.std.specs.Prelude.{pos}
+use Rattle.std.proofs.Common.{◌≡◌, refl, sym, ap, subst, ℕ, zero, suc, ◌+◌, ◌-◌, ◌<◌, arith, Bool, true, false, cond, List, [], ◌∷◌, ◌++◌, map, length, take, Option, Some, None, slice_get, inl, inr}
 use Rattle.std.specs.List.{flat_map, list_any}
-use Rattle.std.proofs.lemmas.Bool.{false≢true}
 use Rattle.java_tree.specs.declared.tree.Class.{Class}
 use Rattle.java_tree.specs.declared.tree.Method.{Method}
 use Rattle.java_tree.specs.declared.method_kinds.MethodKind.{MethodKind}
@@ -20,21 +18,19 @@ use Rattle.flat_code.specs.Verified.{is_of_entry, IsMethod, HasCode, Calls}
 use Rattle.flat_code.specs.Verified as verified
 use Rattle.access_blocks.specs.declared.body.Body.{Body}
 use Rattle.access_blocks.specs.declared.body.Program.{Program}
-use Rattle.access_blocks.specs.Programs.{fields_in, methods_in}
+use Rattle.access_blocks.specs.Programs.{methods_in}
 use Rattle.body_code.specs.declared.callee.Callee.{Callee}
 use Rattle.body_code.specs.Completing.{body_completes}
 use Rattle.body_code.specs.Early.{is_in, early}
-use Rattle.body_code.specs.StatementCode.{Place, Exits, Piece}
-use Rattle.body_code.specs.ClassCode.{var_type_by, start_code, start_of, set_at_start, started, first_cut, body_place, no_exits, is_jump_to, ending, ended, body_piece, body_code, graph_kind, graph_methods, tasks_of}
+use Rattle.body_code.specs.ClassCode.{start_of, set_at_start, started, first_cut, body_place, no_exits, is_jump_to, ending, body_piece, graph_kind, graph_methods, tasks_of}
 use Rattle.body_code.specs.Checking.{in_all, called_in, CallsMethod, IsTyped}
 use Rattle.body_code.specs.Checking as checking
 use Rattle.task_cutter.specs.Numbers.{ends, task_count, start_number, number_behind}
-use Rattle.verified_code.proofs.Labels.{Setting, Right}
 use Rattle.verified_code.proofs.Typed.{none_some, some_is}
-use Rattle.verified_code.proofs.Shapes.{QuietAt, Quiet, CallsAt, AllCalls, Counts, quiet_both, quiet_calls, quiet_counts, counts_both, calls_both, statements_shaped, quiet_more}
+use Rattle.verified_code.proofs.Shapes.{Quiet, CallsAt, AllCalls, Counts, quiet_both, quiet_calls, quiet_counts, counts_both, calls_both, statements_shaped}
 use Rattle.verified_code.proofs.Classes.{graph, own, fields, cs, setting, first_task}
 use Rattle.verified_code.proofs.Bodies.{Labelled, at_first, body_labels, below_or}
-use Rattle.verified_code.proofs.Clauses.{Lays, lays}
+use Rattle.verified_code.proofs.Clauses.{lays}
 
 -- ---- numbers by counting
 

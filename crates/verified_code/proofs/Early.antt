@@ -1,21 +1,17 @@
 -- The locals that are set before a typed body are variables of a type.
-use Rattle.std.proofs.Common.{◌≡◌, refl, sym, ap, subst, ◌∙◌, ℕ, Bool, true, false, cond, List, [], ◌∷◌, ◌++◌, map, Option, Some, None, slice_get}
-use Rattle.std.specs.List.{flat_map}
+use Rattle.std.proofs.Common.{◌≡◌, sym, subst, ℕ, Bool, true, false, cond, List, [], ◌∷◌, ◌++◌, map, Some, None}
 use Rattle.sdg_base.specs.declared.value_type.ValueType.{ValueType}
-use Rattle.access_blocks.specs.declared.body.Access.{Access}
-use Rattle.access_blocks.specs.declared.body.Expression.{Expression}
 use Rattle.access_blocks.specs.declared.body.Target.{Target}
 use Rattle.access_blocks.specs.declared.body.Target.TheVariants as target
 use Rattle.access_blocks.specs.declared.body.Statement.{Statement, roll-Statement}
 use Rattle.access_blocks.specs.declared.body.Statement.TheOpen.{Statement-F}
 use Rattle.access_blocks.specs.declared.body.Statement.TheOpen as s
 use Rattle.access_blocks.specs.declared.body.Statement.TheFolds.{fold-roll-Statement, ind-Statement, map-Statement}
-use Rattle.body_code.specs.Early.{Assigned, to_target, with_reads, key_reads, of_second, all_of, assigned_step, assigned_in, is_in, if_early, early_after}
+use Rattle.body_code.specs.Early.{Assigned, to_target, with_reads, key_reads, all_of, assigned_step, assigned_in, is_in, early_after}
 use Rattle.body_code.specs.Typing.{variable_type, needs, needs_of_all, type_of}
 use Rattle.body_code.specs.Checking.{Standing, Around, Checking, checked_step, checked, targeted, are_met, is_type, with_known, otherwise, outside, passing, in_block}
 use Rattle.body_code.specs.Checking as checking
 use Rattle.verified_code.proofs.Labels.{Setting}
-use Rattle.verified_code.proofs.Typed.{none_some}
 use Rattle.verified_code.proofs.Simple.{Whole, so_is, type_is, assigned_is, accessed_is}
 use Rattle.verified_code.proofs.Control.{next_of_is, opened_is, compound_is, branch_is, marked_is}
 use Rattle.verified_code.proofs.Loops.{passed_is}

@@ -1,7 +1,5 @@
 -- The code of a typed expression pushes a value of its type, and reads what is known.
-use Rattle.std.proofs.Common.{◌≡◌, ◌≢◌, refl, sym, ap, subst, ◌∙◌, ℕ, zero, suc, ◌+◌, ◌<◌, ◌≤◌, arith, Bool, true, false, List, [], ◌∷◌, ◌++◌, map, length, length-append, Option, Some, None, slice_get, ◌⊎◌, inl, inr}
-use Rattle.std.specs.Prelude.{not, ◌||◌, pos}
-use Rattle.std.specs.List.{list_all}
+use Rattle.std.proofs.Common.{◌≡◌, refl, sym, ap, subst, ◌∙◌, ℕ, suc, ◌+◌, arith, Bool, true, false, List, [], ◌∷◌, ◌++◌, map, length, length-append, Option, Some, None, slice_get, ◌⊎◌, inl, inr}
 use Rattle.std.proofs.lemmas.Bool.{false≢true}
 use Rattle.sdg_base.specs.declared.operator.BinOp.{BinOp}
 use Rattle.sdg_base.specs.declared.operator.BinOp.TheVariants as bin
@@ -13,15 +11,13 @@ use Rattle.sdg_base.specs.declared.value_type.ValueType.TheVariants as type
 use Rattle.sdg_base.specs.Types.{binary_type, unary_type}
 use Rattle.java_tree.specs.declared.method_kinds.MethodKind.{MethodKind}
 use Rattle.java_tree.specs.declared.method_kinds.MethodKind.TheVariants as source_kind
-use Rattle.flat_code.specs.declared.graph.Graph.{Graph}
 use Rattle.flat_code.specs.declared.graph.GraphMethod.{GraphMethod}
 use Rattle.flat_code.specs.declared.graph.Instr.{Instr}
 use Rattle.flat_code.specs.declared.graph.Instr.TheVariants as instr
-use Rattle.flat_code.specs.declared.graph.MethodKind.TheVariants as method_kind
-use Rattle.flat_code.specs.Types.{result_by, type_of_variable, members_of_variable, same_types}
+use Rattle.flat_code.specs.Types.{result_by, type_of_variable, members_of_variable}
 use Rattle.flat_code.specs.Fits.{parameters}
-use Rattle.flat_code.specs.Ways.{IsIn, next_of, reads, writes}
-use Rattle.flat_code.specs.Verified.{Stack, off, without, on_top, with_result, pushing, if_type, if_members, types_of_variables, without_all, called_type, merged_type, types_after, is_of_entry, is_of_merge, HasMethod}
+use Rattle.flat_code.specs.Ways.{IsIn, next_of, reads}
+use Rattle.flat_code.specs.Verified.{Stack, on_top, with_result, pushing, if_type, if_members, types_of_variables, without_all, called_type, merged_type, is_of_entry}
 use Rattle.access_blocks.specs.declared.body.Expression.{Expression, roll-Expression}
 use Rattle.access_blocks.specs.declared.body.Expression.TheOpen.{Expression-F}
 use Rattle.access_blocks.specs.declared.body.Expression.TheOpen as e
@@ -31,13 +27,13 @@ use Rattle.body_code.specs.Typing.{Context, Needs, needs, needs_of_all, type_of,
 use Rattle.body_code.specs.Typing as typing
 use Rattle.body_code.specs.Codes.{Code, plain, followed_by}
 use Rattle.body_code.specs.Codes as codes
-use Rattle.body_code.specs.ExpressionCode.{Lowered, lowered, lowered_step, code_of, codes_of, behind, either, unary, binary, operand_of}
+use Rattle.body_code.specs.ExpressionCode.{Lowered, lowered, lowered_step, code_of, behind, either, unary, binary, operand_of}
 use Rattle.body_code.specs.ClassCode.{graph_kind}
-use Rattle.body_code.specs.Checking.{Surroundings, Standing, has_key, takes_gathered, takes_values, is_merge_of}
-use Rattle.verified_code.proofs.Labels.{Label, label, Setting, Knows, MayRead, IsKnown, IsCollection, Eases, Own, Takes, OfKind, AtCall, AtMerge, AtKey, AtLoad, Plainly, Made}
+use Rattle.body_code.specs.Checking.{Surroundings, Standing, has_key, takes_gathered}
+use Rattle.verified_code.proofs.Labels.{Label, label, Setting, Knows, MayRead, IsKnown, IsCollection, Own, Takes, OfKind, Plainly, Made}
 use Rattle.verified_code.proofs.Making.{only_one, in_none, Follows, one, none, both, within, if_else, turned, turning} 
 use Rattle.verified_code.proofs.Making as making
-use Rattle.verified_code.proofs.Typed.{none_some, some_is, operates, and_also, unary_after, plus_same, casts, where_is, alike_is, called_is, is_value, are_values, pushed, without_pushed, on_top_is, same_are, and_left, and_right}
+use Rattle.verified_code.proofs.Typed.{none_some, some_is, operates, and_also, unary_after, plus_same, casts, where_is, alike_is, called_is, is_value, are_values, pushed, without_pushed, and_left}
 use Rattle.verified_code.proofs.Needed.{IsMet, met_left, met_right, one_known}
 
 -- a method of the graph is as its callers know it

@@ -1,23 +1,22 @@
 -- What holds at each place of a body's code: the types on the stack, what is known, and how far a way may still go without a turn.
-use Rattle.std.proofs.Common.{◌≡◌, ◌≢◌, refl, sym, ap, subst, ◌∙◌, ℕ, zero, suc, ◌+◌, ◌<◌, ◌≤◌, arith, Bool, true, false, List, [], ◌∷◌, ◌++◌, length, length-append, Option, Some, None, slice_get, ◌⊎◌, inl, inr}
+use Rattle.std.proofs.Common.{◌≡◌, ◌≢◌, refl, sym, subst, ◌∙◌, ℕ, suc, ◌+◌, ◌<◌, ◌≤◌, arith, Bool, true, false, List, [], ◌∷◌, ◌++◌, length, Option, Some, None, slice_get, ◌⊎◌, inl, inr}
 use Rattle.sdg_base.specs.declared.value_type.ValueType.{ValueType}
 use Rattle.sdg_base.specs.declared.value_type.ValueType.TheVariants as type
 use Rattle.sdg_base.specs.Signatures.{Signature}
 use Rattle.state_classes.specs.declared.method.Method.{Method}
 use Rattle.java_tree.specs.declared.method_kinds.MethodKind.TheVariants as source_kind
 use Rattle.flat_code.specs.declared.graph.Graph.{Graph}
-use Rattle.flat_code.specs.declared.graph.GraphField.{GraphField}
 use Rattle.flat_code.specs.declared.graph.GraphMethod.{GraphMethod}
 use Rattle.flat_code.specs.declared.graph.Instr.{Instr}
 use Rattle.flat_code.specs.declared.graph.Instr.TheVariants as instr
 use Rattle.flat_code.specs.declared.graph.MethodKind.TheVariants as method_kind
 use Rattle.flat_code.specs.Types.{signature_at}
-use Rattle.flat_code.specs.Ways.{IsIn, IsFirst, IsLater, next_of, next_in_task, reads, writes}
+use Rattle.flat_code.specs.Ways.{IsIn, next_of, next_in_task, reads, writes}
 use Rattle.flat_code.specs.Verified.{Stack, on_top, types_after, is_of_entry, is_of_merge, IsJumpTo, HasMethod}
 use Rattle.access_blocks.specs.declared.body.Holder.{Holder}
 use Rattle.body_code.specs.Early.{is_in}
 use Rattle.body_code.specs.StatementCode.{name_in}
-use Rattle.body_code.specs.Checking.{Surroundings, Standing, has_key, takes_gathered, is_partitioned, in_block}
+use Rattle.body_code.specs.Checking.{Surroundings, Standing, has_key, takes_gathered, is_partitioned}
 
 -- what stands right before a place to which nothing jumps
 pub data Behind : Type 0 where

@@ -18,4 +18,5 @@ pub mod Cutting
 pub mod Counting
 pub mod Tasks
 pub mod Sound
+pub mod Names
 pub mod WellCut

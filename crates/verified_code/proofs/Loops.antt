@@ -1,20 +1,19 @@
 -- The labels of loops: a way back spends a turn.
-use Rattle.std.proofs.Common.{◌≡◌, refl, sym, ap, subst, ◌∙◌, ℕ, zero, suc, ◌+◌, ◌<◌, ◌≤◌, arith, Bool, true, false, ◌&&◌, List, [], ◌∷◌, ◌++◌, length, length-append, Option, Some, None, ◌⊎◌, inl, inr}
+use Rattle.std.proofs.Common.{◌≡◌, refl, sym, subst, ◌∙◌, ℕ, suc, ◌+◌, ◌≤◌, arith, true, ◌&&◌, List, [], ◌∷◌, ◌++◌, length, length-append, Option, Some, None, ◌⊎◌, inl, inr}
 use Rattle.sdg_base.specs.declared.value_type.ValueType.TheVariants as type
 use Rattle.flat_code.specs.declared.graph.Instr.{Instr}
 use Rattle.flat_code.specs.declared.graph.Instr.TheVariants as instr
 use Rattle.access_blocks.specs.declared.body.Expression.{Expression}
 use Rattle.body_code.specs.Typing.{Context}
-use Rattle.body_code.specs.Codes.{nothing}
 use Rattle.body_code.specs.ExpressionCode.{code_of, behind}
-use Rattle.body_code.specs.StatementCode.{Place, Exits, Piece, behind_piece, of_code, of_instructions, then_piece, in_order, tested, pass, next_pass, passes, looped}
+use Rattle.body_code.specs.StatementCode.{Place, Exits, Piece, behind_piece, of_instructions, in_order, tested, pass, next_pass, passes, looped}
 use Rattle.body_code.specs.Checking.{Surroundings, Standing, Around, Checking, after_compound, is_condition, ends_as, passing, looping, takes}
 use Rattle.body_code.specs.Checking as checking
-use Rattle.verified_code.proofs.Labels.{Anything, Label, label, Setting, Knows, Eases, eases_on, same_eases, Right, Good, Agrees, good_both, agrees_left, agrees_right, Begins, begins_with, joined, Made}
+use Rattle.verified_code.proofs.Labels.{Anything, Label, label, Setting, Knows, Eases, eases_on, same_eases, Good, Agrees, good_both, agrees_left, agrees_right, begins_with, joined, Made}
 use Rattle.verified_code.proofs.Making.{none, both, jump, test}
 use Rattle.verified_code.proofs.Typed.{and_left, and_right}
 use Rattle.verified_code.proofs.Expressions.{Proper, Anywhere, behind_place}
-use Rattle.verified_code.proofs.Simple.{Whole, scope, Leads, Carries, Pieced, so_is, Covers, covered, TypedBy, takes_is, value_made, value_long, anywhere, same_standing, same_known}
+use Rattle.verified_code.proofs.Simple.{Whole, Leads, Carries, Pieced, so_is, Covers, covered, takes_is, value_made, value_long, anywhere, same_standing, same_known}
 use Rattle.verified_code.proofs.Control.{turn_right, carries_left, carries_right, ends_is, compound_covers, next_of_is}
 use Rattle.verified_code.proofs.Making as making
 

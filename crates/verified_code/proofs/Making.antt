@@ -1,11 +1,11 @@
 -- Labels of code that is put together.
-use Rattle.std.proofs.Common.{◌≡◌, ◌≢◌, refl, sym, ap, subst, ◌∙◌, ℕ, zero, suc, ◌+◌, ◌<◌, ◌≤◌, arith, Bool, true, false, List, [], ◌∷◌, ◌++◌, length, length-append, Option, Some, None, slice_get, ◌⊎◌, inl, inr}
+use Rattle.std.proofs.Common.{◌≡◌, refl, sym, ap, subst, ◌∙◌, ℕ, suc, ◌+◌, ◌<◌, ◌≤◌, arith, false, List, [], ◌∷◌, ◌++◌, length, length-append, Some, None, ◌⊎◌, inl, inr}
 use Rattle.std.proofs.lemmas.Bool.{false≢true}
 use Rattle.sdg_base.specs.declared.value_type.ValueType.TheVariants as type
 use Rattle.flat_code.specs.declared.graph.Instr.{Instr}
 use Rattle.flat_code.specs.declared.graph.Instr.TheVariants as instr
 use Rattle.flat_code.specs.Ways.{IsIn, IsFirst, IsLater, next_of, next_in_task, reads, writes}
-use Rattle.flat_code.specs.Verified.{Stack, types_after, is_of_entry, is_of_merge, IsJumpTo}
+use Rattle.flat_code.specs.Verified.{Stack, is_of_entry, is_of_merge, IsJumpTo}
 use Rattle.body_code.specs.Checking.{Standing}
 use Rattle.verified_code.proofs.Labels.{Behind, Anything, Turning, Label, label, Setting, Knows, MayRead, Stays, stays_on, Eases, eases_on, same_eases, Own, Takes, Suits, OfKind, Right, Good, Agrees, good_both, agrees_left, agrees_right, Begins, begins_with, joined, Made}
 

@@ -1,10 +1,8 @@
 -- What an expression needs, its parts need.
-use Rattle.std.proofs.Common.{◌≡◌, refl, sym, ap, subst, ◌∙◌, ℕ, zero, suc, Bool, true, false, not, ◌&&◌, ◌||◌, nat_eq, List, [], ◌∷◌, ◌++◌, map, Option, Some, None, ◌⊎◌, inl, inr}
-use Rattle.std.proofs.lemmas.Bool.{false≢true}
-use Rattle.std.specs.List.{list_all, list_any}
-use Rattle.flat_code.specs.Ways.{IsIn, IsFirst, IsLater}
+use Rattle.std.proofs.Common.{◌≡◌, refl, subst, ℕ, Bool, true, false, not, ◌&&◌, ◌||◌, List, [], ◌∷◌, ◌++◌}
+use Rattle.std.specs.List.{list_all}
 use Rattle.body_code.specs.Early.{is_in}
-use Rattle.body_code.specs.Typing.{Needs, both, all_of}
+use Rattle.body_code.specs.Typing.{Needs, both}
 use Rattle.body_code.specs.Checking.{Surroundings, Standing, are_known, takes_gathered, has_key, are_met}
 use Rattle.verified_code.proofs.Typed.{and_left, and_right}
 

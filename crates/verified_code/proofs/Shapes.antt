@@ -1,6 +1,6 @@
 -- Which tasks code names, in their order, and which methods it calls.
-use Rattle.std.proofs.Common.{◌≡◌, refl, sym, ap, subst, ◌∙◌, ℕ, zero, suc, ◌+◌, ◌<◌, ◌≤◌, arith, Bool, true, false, List, [], ◌∷◌, ◌++◌, map, length, Option, Some, None, slice_get, take, ◌⊎◌, inl, inr}
-use Rattle.std.specs.Prelude.{nat_eq, ◌||◌, pos}
+use Rattle.std.proofs.Common.{◌≡◌, refl, sym, subst, ℕ, zero, suc, ◌+◌, arith, Bool, true, false, List, [], ◌∷◌, ◌++◌, map, length, Option, Some, None}
+use Rattle.std.specs.Prelude.{nat_eq, ◌||◌}
 use Rattle.std.specs.List.{flat_map, range_with_len}
 use Rattle.std.proofs.lemmas.Bool.{false≢true, eq-eqb}
 use Rattle.sdg_base.specs.declared.operator.BinOp.{BinOp}
@@ -30,7 +30,7 @@ use Rattle.body_code.specs.Codes as codes
 use Rattle.body_code.specs.ExpressionCode.{Lowered, lowered, lowered_step, code_of, codes_of, behind, either, unary, binary, operand_of}
 use Rattle.body_code.specs.StatementCode.{Place, Exits, Piece, Scope, moved, behind_piece, of_code, of_instructions, then_piece, in_order, cut, key_code, guarded, jumped_over, branches, tested, pass, next_pass, passes, looped, stored_from, stored, visit, popped, dropped, returned, field_name, signature_of, result_of, piece_step, piece_of, pieces_of}
 use Rattle.body_code.specs.StatementCode as code
-use Rattle.body_code.specs.Checking.{calling_step, calling, calling_maybe, in_all, in_second, called_step, called_in}
+use Rattle.body_code.specs.Checking.{calling_step, calling, calling_maybe, in_all, called_step, called_in}
 
 -- ---- calls to some methods alone, and no accesses and ends of tasks
 

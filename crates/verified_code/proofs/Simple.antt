@@ -1,41 +1,37 @@
 -- The labels of statements without statements inside.
-use Rattle.std.proofs.Common.{◌≡◌, ◌≢◌, refl, sym, ap, subst, ◌∙◌, ℕ, zero, suc, ◌+◌, ◌<◌, ◌≤◌, arith, Bool, true, false, cond, ◌&&◌, List, [], ◌∷◌, ◌++◌, map, length, length-append, Option, Some, None, slice_get, ◌⊎◌, inl, inr}
+use Rattle.std.proofs.Common.{◌≡◌, refl, sym, ap, subst, ◌∙◌, ℕ, suc, ◌+◌, ◌≤◌, arith, Bool, true, false, cond, ◌&&◌, List, [], ◌∷◌, ◌++◌, map, length, Option, Some, None, slice_get, ◌⊎◌, inl, inr}
 use Rattle.std.specs.Prelude.{not, ◌||◌, nat_eq}
-use Rattle.std.specs.List.{list_all, list_any}
+use Rattle.std.specs.List.{list_all}
 use Rattle.std.proofs.lemmas.Bool.{false≢true, eqb-true, eq-eqb}
 use Rattle.sdg_base.specs.declared.value_type.ValueType.{ValueType}
 use Rattle.sdg_base.specs.declared.value_type.ValueType.TheVariants as type
 use Rattle.sdg_base.specs.Signatures.{Signature}
 use Rattle.state_classes.specs.declared.method.Method.{Method}
-use Rattle.java_tree.specs.declared.method_kinds.MethodKind.{MethodKind}
 use Rattle.java_tree.specs.declared.method_kinds.MethodKind.TheVariants as source_kind
-use Rattle.flat_code.specs.declared.graph.GraphMethod.{GraphMethod}
 use Rattle.flat_code.specs.declared.graph.Instr.{Instr}
 use Rattle.flat_code.specs.declared.graph.Instr.TheVariants as instr
 use Rattle.flat_code.specs.declared.graph.VarType.{VarType}
 use Rattle.flat_code.specs.declared.graph.VarType.TheVariants as var
-use Rattle.flat_code.specs.Types.{result_by, type_by, type_of_variable, same_type, same_types, signature_at}
-use Rattle.flat_code.specs.Ways.{IsIn, next_of, reads, writes}
-use Rattle.flat_code.specs.Verified.{Stack, off, without, on_top, with_result, if_type, stored_type, accessed_type, returned_type, nothing_returned, types_after}
+use Rattle.flat_code.specs.Types.{result_by, type_by, type_of_variable, same_type, signature_at}
+use Rattle.flat_code.specs.Verified.{Stack, on_top, with_result, if_type, stored_type, accessed_type, returned_type, nothing_returned}
 use Rattle.access_blocks.specs.declared.body.Access.{Access}
 use Rattle.access_blocks.specs.declared.body.Expression.{Expression}
 use Rattle.access_blocks.specs.declared.body.Target.{Target}
 use Rattle.access_blocks.specs.declared.body.Target.TheVariants as target
 use Rattle.body_code.specs.Early.{is_in}
-use Rattle.body_code.specs.Typing.{Context, Needs, needs, needs_of_all, type_of, types_of, variable_type}
-use Rattle.body_code.specs.Typing as typing
-use Rattle.body_code.specs.Codes.{Code, plain, followed_by}
-use Rattle.body_code.specs.ExpressionCode.{Lowered, lowered, code_of, codes_of, behind}
+use Rattle.body_code.specs.Typing.{Context, needs, needs_of_all, type_of, types_of, variable_type}
+use Rattle.body_code.specs.Codes.{plain, followed_by}
+use Rattle.body_code.specs.ExpressionCode.{code_of, codes_of, behind}
 use Rattle.body_code.specs.StatementCode.{Place, Exits, Piece, Scope, of_code, name_in, field_name, popped, dropped, returned, jump_to, result_of}
 use Rattle.body_code.specs.StatementCode as code
 use Rattle.body_code.specs.Checking.{Surroundings, Standing, Around, Checking, if_so, with_known, are_met, are_known, covers, same_number, same_value, is_none, is_type, are_types, takes, takes_all, is_void, is_result, to_variable, assigned, set_element, has_type, evaluated, targeted, is_access, access, jumping, returning, is_partitioned}
 use Rattle.body_code.specs.Checking as checking
-use Rattle.verified_code.proofs.Labels.{Behind, Anything, Label, label, Setting, Knows, MayRead, IsKnown, Stays, Eases, same_eases, Own, Takes, OfKind, AtAccess, InBlock, Right, Begins, Made}
+use Rattle.verified_code.proofs.Labels.{Anything, Label, label, Setting, Knows, MayRead, IsKnown, Eases, same_eases, InBlock, Made}
 use Rattle.verified_code.proofs.Making.{only_one, in_none, Follows, right_by, one, last, none, both, within}
 use Rattle.verified_code.proofs.Making as making
-use Rattle.verified_code.proofs.Typed.{none_some, some_is, same_is, same_refl, same_are, is_value, are_values, pushed, without_pushed, one_off, on_top_is, and_left, and_right}
+use Rattle.verified_code.proofs.Typed.{none_some, some_is, same_is, same_are, is_value, are_values, pushed, without_pushed, one_off, and_left, and_right}
 use Rattle.verified_code.proofs.Needed.{IsMet, is_met}
-use Rattle.verified_code.proofs.Expressions.{Fitting, Proper, Anywhere, Coded, Lowers, expressions, several, AllCoded, all_long, all_made, long_behind, long_both, behind_place}
+use Rattle.verified_code.proofs.Expressions.{Fitting, Proper, Anywhere, expressions, several, all_long, all_made, long_behind, long_both, behind_place}
 
 -- the fields of the class are those that the body's accesses name, and the method's result is that of the body
 pub record FieldMeets (s : Setting) (field : ℕ) (m : Method) (sig : Signature) : Type 0 where

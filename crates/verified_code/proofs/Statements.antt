@@ -1,10 +1,10 @@
 -- The code of typed statements has labels.
-use Rattle.std.proofs.Common.{◌≡◌, refl, sym, ap, subst, ◌∙◌, ℕ, List, [], ◌∷◌, map, Option, Some, None}
+use Rattle.std.proofs.Common.{◌≡◌, sym, subst, List, [], ◌∷◌, map, Some, None}
 use Rattle.access_blocks.specs.declared.body.Statement.{Statement, roll-Statement}
 use Rattle.access_blocks.specs.declared.body.Statement.TheOpen.{Statement-F}
 use Rattle.access_blocks.specs.declared.body.Statement.TheOpen as s
 use Rattle.access_blocks.specs.declared.body.Statement.TheFolds.{fold-roll-Statement, ind-Statement, map-Statement}
-use Rattle.body_code.specs.StatementCode.{Exits, Piece, piece_step, piece_of, pieces_of, in_order}
+use Rattle.body_code.specs.StatementCode.{Piece, piece_step, piece_of, pieces_of, in_order}
 use Rattle.body_code.specs.Checking.{Checking, checked_step, checked, checked_list}
 use Rattle.body_code.specs.Checking as checking
 use Rattle.verified_code.proofs.Labels.{Setting}

@@ -1,6 +1,6 @@
 -- The code of statements that can't complete ends in an instruction behind which nothing goes on.
-use Rattle.std.proofs.Common.{◌≡◌, refl, sym, ap, subst, ◌∙◌, ℕ, Bool, true, false, ◌+◌, List, [], ◌∷◌, ◌++◌, map, Option, Some, None}
-use Rattle.std.specs.Prelude.{not, ◌||◌}
+use Rattle.std.proofs.Common.{◌≡◌, refl, sym, subst, Bool, true, false, ◌+◌, List, [], ◌∷◌, ◌++◌, map, Option, Some, None}
+use Rattle.std.specs.Prelude.{◌||◌}
 use Rattle.std.proofs.lemmas.Bool.{false≢true}
 use Rattle.flat_code.specs.declared.graph.Instr.{Instr}
 use Rattle.flat_code.specs.declared.graph.Instr.TheVariants as instr
@@ -13,10 +13,10 @@ use Rattle.access_blocks.specs.declared.body.Statement.TheOpen.{Statement-F}
 use Rattle.access_blocks.specs.declared.body.Statement.TheOpen as s
 use Rattle.access_blocks.specs.declared.body.Statement.TheFolds.{fold-roll-Statement, ind-Statement, map-Statement}
 use Rattle.sdg_base.specs.declared.value_type.ValueType.{ValueType}
-use Rattle.body_code.specs.ExpressionCode.{code_of, codes_of, behind}
+use Rattle.body_code.specs.ExpressionCode.{code_of, codes_of}
 use Rattle.body_code.specs.StatementCode.{Place, Exits, Piece, Scope, moved, behind_piece, of_code, of_instructions, then_piece, in_order, cut, key_code, guarded, jumped_over, tested, pass, next_pass, passes, field_name, signature_of, result_of, piece_step, piece_of, pieces_of}
 use Rattle.body_code.specs.StatementCode as code
-use Rattle.body_code.specs.Completing.{Leaving, leaving_step, leaving_of, completing, body_completes, goes_on}
+use Rattle.body_code.specs.Completing.{Leaving, leaving_step, leaving_of, completing, body_completes}
 
 abbrev pub Ends : Instr → Type 0
 Ends (instr.Jump to) = Unit {0}

@@ -1,10 +1,8 @@
 -- What the tasks of a typed class carry, and where they begin.
-use Rattle.std.proofs.Common.{◌≡◌, ◌≢◌, refl, sym, ap, subst, ◌∙◌, ℕ, zero, suc, ◌+◌, ◌<◌, ◌≤◌, arith, Bool, true, false, List, [], ◌∷◌, length, take, drop, Option, Some, None, slice_get, ◌⊎◌, inl, inr}
+use Rattle.std.proofs.Common.{◌≡◌, ◌≢◌, refl, sym, ap, subst, ◌∙◌, ℕ, zero, suc, ◌+◌, ◌<◌, ◌≤◌, arith, Bool, true, false, List, [], ◌∷◌, length, drop, Option, Some, None, slice_get, ◌⊎◌, inl, inr}
 use Rattle.std.specs.List.{range_with_len}
-use Rattle.std.proofs.lemmas.Bool.{false≢true}
 use Rattle.state_classes.specs.declared.method.Method.{Method}
 use Rattle.java_tree.specs.declared.tree.Class.{Class}
-use Rattle.java_tree.specs.declared.method_kinds.MethodKind.TheVariants as source_kind
 use Rattle.flat_code.specs.declared.graph.Flat.{Flat}
 use Rattle.flat_code.specs.declared.graph.Graph.{Graph}
 use Rattle.flat_code.specs.declared.graph.GraphField.{GraphField}
@@ -13,27 +11,26 @@ use Rattle.flat_code.specs.declared.graph.Instr.{Instr}
 use Rattle.flat_code.specs.declared.graph.Instr.TheVariants as instr
 use Rattle.flat_code.specs.declared.graph.MethodKind.TheVariants as method_kind
 use Rattle.flat_code.specs.declared.graph.Task.{Task}
-use Rattle.flat_code.specs.declared.graph.TaskKind.{TaskKind}
 use Rattle.flat_code.specs.declared.graph.TaskKind.TheVariants as kind
 use Rattle.flat_code.specs.Fits.{parameters}
 use Rattle.flat_code.specs.Types.{field_named}
-use Rattle.flat_code.specs.Ways.{IsIn, IsFirst, IsLater, needs, reads, writes, variables_of, IsLive, IsRead, IsReadLater, IsNeeded, NeededHere, NeededLater}
-use Rattle.flat_code.specs.Verified.{IsTask, IsMethod, HasCode, HasStart, SpendsBefore, IsJumpTo, IsOnlyBehind, IsBehindTurn, IsBehindAccess}
+use Rattle.flat_code.specs.Ways.{IsIn, IsFirst, IsLater, needs, writes, variables_of, Reaches, ReachesStart, ReachesNext, IsLive, IsRead, IsReadLater, IsNeeded, NeededHere, NeededLater}
+use Rattle.flat_code.specs.Verified.{IsTask, IsMethod, HasCode, HasStart, SpendsBefore, IsOnlyBehind, IsBehindTurn, IsBehindAccess, ReachesCode}
 use Rattle.access_blocks.specs.declared.body.Program.{Program}
 use Rattle.body_code.specs.ClassCode.{code_of_class, graph_kind}
 use Rattle.body_code.specs.Checking.{Standing, IsTyped}
 use Rattle.live_vars.specs.Sets.{AreLive, AreLiveSets}
 use Rattle.task_cutter.specs.Tasks.{graph_of, first_field, is_visit, cut_kind, kind_by, is_partitioned}
-use Rattle.task_cutter.specs.Numbers.{ends, start_number, number_behind, HasEntryCode, IsStart, IsBehind, AreCutBehind}
+use Rattle.task_cutter.specs.Numbers.{ends, start_number, number_behind, HasEntryCode, AreCutBehind}
 use Rattle.verified_code.proofs.Labels.{Behind, Anything, Turning, Accessing, Label, Setting, MayRead, IsKnown, IsCollection, Suits, Right}
 use Rattle.verified_code.proofs.Making.{next_is}
 use Rattle.verified_code.proofs.Typed.{none_some, some_is}
 use Rattle.verified_code.proofs.Classes.{own, setting}
 use Rattle.verified_code.proofs.Bodies.{Labelled, at_first, get_within, below_or}
 use Rattle.verified_code.proofs.Bodies as bodies
-use Rattle.verified_code.proofs.Clauses.{Lays, lays, needed_known, first_read}
+use Rattle.verified_code.proofs.Clauses.{Lays, lays, first_read}
 use Rattle.verified_code.proofs.Cutting.{tasks_are_cut}
-use Rattle.verified_code.proofs.Counting.{EndsAt, IsCut, IsPart, ends_at, method_with, entry_count, cut_named, part_named}
+use Rattle.verified_code.proofs.Counting.{IsCut, IsPart, ends_at, method_with, entry_count, cut_named, part_named}
 
 -- ---- places behind a turn or an access
 
@@ -281,4 +278,44 @@ module _ (class : Class) (program : Program) (live : List (List (List ℕ))) (ty
         | BehindPart o at u x is_x code own_method behind joins vars ↦
           (let same : x ≡ m = same_method t.method m x is (ap (slice_get graph.methods) own_method ∙ is_x) in
           vars.whole v (subst (λ (z : GraphMethod). IsLive z.code v (suc at)) (sym same) (subst (λ (a : ℕ). IsLive m.code v a) behind alive)))
+      ]
+
+  -- ---- what a join carries, the visit carried
+
+  visit_keeps : (s : Setting) (lab : ℕ → Label) (at : ℕ) (i : Instr) (part v : ℕ) → Right s lab at i → (lab at).visit ≡ Some part → writes i ≢ Some v
+  visit_keeps s lab at (instr.Store u) part v r e w = none_some part (sym r.own ∙ e)
+  visit_keeps s lab at _ part v r e w = none_some v w
+
+  back_live : (n : ℕ) (m : GraphMethod) (is : IsMethod graph n m) (k : Of n m) (v part start at : ℕ) → Reaches m.code start at → ((labels_of n m k).lab at).visit ≡ Some part → IsLive m.code v at
+      → (((labels_of n m k).lab start).visit ≡ Some part) × IsLive m.code v start
+  back_live n m is k v part start at ReachesStart e alive = (e, alive)
+  back_live n m is k v part start at (ReachesNext place next i reach code goes) e alive =
+      let r = (labels_of n m k).right place i code in
+      let here : ((labels_of n m k).lab place).visit ≡ Some part = sym (r.stays next goes).visit ∙ e in
+      back_live n m is k v part start place reach here
+        (IsReadLater place next i code (visit_keeps (setting class program graph.tasks k.m k.b k.task) (labels_of n m k).lab place i part v r here) (next_is place i next goes) alive)
+
+  pub joins : (q join at : ℕ) (t u : Task) (v : ℕ) → IsTask graph q t → ReachesCode graph t at (instr.Part join) → IsTask graph join u → IsIn v u.vars → IsIn v t.vars
+  joins q join at t u v is_task way is_join h =
+      let m = way.of in
+      let n = t.method in
+      let k = lays class program graph.tasks typed n m way.is_method in
+      let l = labels_of n m k in
+      let r = l.right at (instr.Part join) way.is_code in
+      let entry : m.kind ≡ method_kind.Entry = ap (λ (z : GraphMethod). z.kind) (sym k.is) ∙ ap graph_kind (r.kind.entry refl) in
+      let c = behinds.parts n at join m (record { is_method = way.is_method; is_entry = entry; is_code = way.is_code }) in
+      let number = part_named class program graph.tasks typed n at join m way.is_method entry way.is_code in
+      let same : c.of ≡ u = some_is c.of u (sym c.is_task ∙ ap (slice_get graph.tasks) (sym number) ∙ is_join) in
+      let alive = c.variables.live v (subst (λ (x : Task). IsIn v x.vars) (sym same) h) in
+      let at_part = IsReadLater at (suc at) (instr.Part join) way.is_code (none_some v) (IsFirst []) alive in
+      let back = back_live n m way.is_method k v at t.at at way.reaches r.own.visit at_part in
+      elim (task_is q t is_task) [
+        | Starts o x is_x number own_method at_first starting vars ↦
+          absurd (let first : (l.lab 0).visit ≡ Some at = subst (λ (a : ℕ). (l.lab a).visit ≡ Some at) at_first back.0 in none_some at (sym l.first_is.stays.visit ∙ first))
+        | BehindCut o place x_t x is_x code own_method behind other vars ↦
+          (let same_m : x ≡ m = same_method n m x way.is_method (ap (slice_get graph.methods) own_method ∙ is_x) in
+          vars.whole v (subst (λ (z : GraphMethod). IsLive z.code v (suc place)) (sym same_m) (subst (λ (a : ℕ). IsLive m.code v a) behind back.1)))
+        | BehindPart o place x_t x is_x code own_method behind join_kind vars ↦
+          (let same_m : x ≡ m = same_method n m x way.is_method (ap (slice_get graph.methods) own_method ∙ is_x) in
+          vars.whole v (subst (λ (z : GraphMethod). IsLive z.code v (suc place)) (sym same_m) (subst (λ (a : ℕ). IsLive m.code v a) behind back.1)))
       ]

@@ -1,5 +1,5 @@
 -- The types that expressions have are those that their instructions take and give.
-use Rattle.std.proofs.Common.{◌≡◌, ◌≢◌, refl, sym, ap, subst, ◌∙◌, ℕ, zero, suc, Bool, true, false, cond, ◌&&◌, List, [], ◌∷◌, ◌++◌, map, length, Option, Some, None, slice_get}
+use Rattle.std.proofs.Common.{◌≡◌, refl, sym, ap, subst, ◌∙◌, Bool, true, false, cond, ◌&&◌, List, [], ◌∷◌, Option, Some, None}
 use Rattle.std.proofs.lemmas.Bool.{false≢true}
 use Rattle.sdg_base.specs.declared.operator.BinOp.{BinOp}
 use Rattle.sdg_base.specs.declared.operator.BinOp.TheVariants as bin
@@ -12,7 +12,7 @@ use Rattle.sdg_base.specs.declared.val.Num.TheVariants as num
 use Rattle.sdg_base.specs.declared.value_type.ValueType.{ValueType}
 use Rattle.sdg_base.specs.declared.value_type.ValueType.TheVariants as type
 use Rattle.sdg_base.specs.Signatures.{Signature}
-use Rattle.sdg_base.specs.Types.{type_named, binary_type, unary_type, number_type}
+use Rattle.sdg_base.specs.Types.{binary_type, unary_type, number_type}
 use Rattle.state_classes.specs.declared.method.Method.{Method}
 use Rattle.state_classes.specs.declared.method.Method.TheVariants as method
 use Rattle.state_classes.specs.Methods.{signature}
@@ -21,7 +21,7 @@ use Rattle.flat_code.specs.declared.graph.GraphMethod.{GraphMethod}
 use Rattle.flat_code.specs.declared.graph.Instr.TheVariants as instr
 use Rattle.flat_code.specs.Types.{same_type, same_types}
 use Rattle.flat_code.specs.Verified.{Stack, off, without, on_top, pushing, types_after}
-use Rattle.body_code.specs.Typing.{where_type, cast_type, alike, chosen_type, called_by}
+use Rattle.body_code.specs.Typing.{where_type, cast_type, alike}
 use Rattle.body_code.specs.ExpressionCode.{operand_of}
 
 pub none_some : {A : Type 0} → (x : A) → None ≡ Some x → ⊥

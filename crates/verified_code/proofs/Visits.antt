@@ -1,38 +1,34 @@
 -- The labels of gathering accesses: the arguments are stored, each visit loads them, and ends in a part.
-use Rattle.std.proofs.Common.{◌≡◌, refl, sym, ap, subst, ◌∙◌, ℕ, zero, suc, ◌+◌, ◌<◌, ◌≤◌, arith, Bool, true, false, ◌&&◌, List, [], ◌∷◌, ◌++◌, map, length, length-append, Option, Some, None, slice_get, ◌⊎◌, inl, inr}
-use Rattle.std.specs.List.{range_with_len, flat_map, list_all}
+use Rattle.std.proofs.Common.{◌≡◌, refl, sym, ap, subst, ◌∙◌, ℕ, zero, suc, ◌+◌, ◌<◌, ◌≤◌, arith, true, false, ◌&&◌, List, [], ◌∷◌, ◌++◌, map, length, length-append, Option, Some, None, slice_get, ◌⊎◌, inl, inr}
+use Rattle.std.specs.List.{range_with_len, flat_map}
 use Rattle.std.proofs.lemmas.Bool.{false≢true}
 use Rattle.sdg_base.specs.declared.value_type.ValueType.{ValueType}
 use Rattle.sdg_base.specs.declared.value_type.ValueType.TheVariants as type
 use Rattle.sdg_base.specs.Signatures.{Signature}
-use Rattle.state_classes.specs.declared.method.Method.{Method}
-use Rattle.java_tree.specs.declared.method_kinds.MethodKind.{MethodKind}
 use Rattle.java_tree.specs.declared.method_kinds.MethodKind.TheVariants as source_kind
 use Rattle.flat_code.specs.declared.graph.Instr.{Instr}
 use Rattle.flat_code.specs.declared.graph.Instr.TheVariants as instr
 use Rattle.flat_code.specs.declared.graph.VarType.{VarType}
-use Rattle.flat_code.specs.Types.{type_by, type_of_variable, signature_at}
-use Rattle.flat_code.specs.Ways.{IsIn, next_of, reads, writes}
-use Rattle.flat_code.specs.Verified.{Stack, without, on_top, with_result, pushing, stored_type, accessed_type, is_of_merge, is_of_entry}
+use Rattle.flat_code.specs.Types.{type_by, type_of_variable}
+use Rattle.flat_code.specs.Ways.{IsIn}
+use Rattle.flat_code.specs.Verified.{Stack, without, on_top, with_result, pushing, stored_type, accessed_type, is_of_merge}
 use Rattle.access_blocks.specs.declared.body.Expression.{Expression}
 use Rattle.access_blocks.specs.declared.body.Gather.{Gather}
 use Rattle.access_blocks.specs.declared.body.Holder.{Holder}
 use Rattle.body_code.specs.Early.{is_in}
-use Rattle.body_code.specs.Typing.{Context, Needs, needs, needs_of_all, type_of, types_of, all_types}
-use Rattle.body_code.specs.Typing as typing
-use Rattle.body_code.specs.Codes.{Code, plain, nothing, followed_by}
+use Rattle.body_code.specs.Typing.{Context, Needs, needs, needs_of_all, type_of, types_of}
 use Rattle.body_code.specs.ExpressionCode.{code_of, behind}
 use Rattle.body_code.specs.StatementCode.{Place, Exits, Piece, behind_piece, then_piece, cut, stored_from, stored, var_type, arguments_of, visit, name_in}
 use Rattle.body_code.specs.StatementCode as code
 use Rattle.body_code.specs.Checking.{Surroundings, Standing, Around, Checking, with_known, outside, gathering, if_so, are_met, are_known, is_partial, takes_all, are_types, is_entry, takes_gathered, has_key}
 use Rattle.body_code.specs.Checking as checking
-use Rattle.verified_code.proofs.Labels.{Behind, Anything, Accessing, Label, label, Setting, Knows, MayRead, IsKnown, Stays, Eases, eases_on, same_eases, Own, Takes, Suits, OfKind, AtAccess, InVisit, AtPart, AtLoad, Visiting, CutsAt, ToVisit, Right, Good, Agrees, good_both, agrees_left, agrees_right, Begins, joined, Made}
+use Rattle.verified_code.proofs.Labels.{Behind, Anything, Accessing, Label, label, Setting, Knows, MayRead, IsKnown, Stays, Eases, Takes, Suits, OfKind, InVisit, Visiting, ToVisit, Right, Good, Agrees, agrees_left, agrees_right, Begins, joined, Made}
 use Rattle.verified_code.proofs.Making.{only_one, in_none, Follows, right_by, one, none, both, turning, turned}
 use Rattle.verified_code.proofs.Making as making
-use Rattle.verified_code.proofs.Typed.{none_some, some_is, is_value, are_values, pushed, without_pushed, one_off, same_are, and_left, and_right}
+use Rattle.verified_code.proofs.Typed.{none_some, some_is, is_value, are_values, pushed, without_pushed, one_off, and_left, and_right}
 use Rattle.verified_code.proofs.Needed.{IsMet, is_met, met_left, met_right, and_both}
 use Rattle.verified_code.proofs.Expressions.{Proper, Anywhere, behind_place, long_behind, long_both, with_is}
-use Rattle.verified_code.proofs.Simple.{Whole, FieldMeets, scope, Leads, Carries, Pieced, so_is, known_more, still_known, now_known, TypedBy, value_made, value_long, anywhere, same_standing, same_known, types_are}
+use Rattle.verified_code.proofs.Simple.{Whole, FieldMeets, scope, Leads, Carries, Pieced, so_is, known_more, still_known, now_known, TypedBy, value_made, value_long, anywhere, same_known, types_are}
 use Rattle.verified_code.proofs.Control.{entry_is}
 
 abbrev pub know_from : ℕ → List ValueType → Standing → Standing

@@ -8,7 +8,7 @@ use Rattle.flat_code.specs.declared.graph.Instr.TheVariants as instr
 use Rattle.flat_code.specs.declared.graph.MethodKind.TheVariants as method_kind
 use Rattle.flat_code.specs.declared.graph.Task.{Task}
 use Rattle.flat_code.specs.Ways.{IsIn, IsNeeded}
-use Rattle.flat_code.specs.Verified.{IsMethod, IsTask, HasCode, HasStart, SpendsBefore, IsBehindTurn, IsBehindAccess}
+use Rattle.flat_code.specs.Verified.{IsMethod, IsTask, NamesSomething, ReachesCode, HasCode, HasStart, SpendsBefore, IsBehindTurn, IsBehindAccess}
 use Rattle.access_blocks.specs.declared.body.Program.{Program}
 use Rattle.body_code.specs.Checking.{IsTyped}
 use Rattle.body_code.specs.ClassCode.{code_of_class}
@@ -16,9 +16,12 @@ use Rattle.live_vars.specs.Sets.{AreLiveSets}
 use Rattle.task_cutter.specs.Tasks.{graph_of}
 
 pub record IsWellCut (graph : Graph) : Type 0 where
+  pub numbers : (n : ℕ) (m : GraphMethod) (at : ℕ) (i : Instr) → IsMethod graph n m → slice_get m.code at ≡ Some i → NamesSomething graph m i
   pub starts : (n : ℕ) (m : GraphMethod) → IsMethod graph n m → m.kind ≡ method_kind.Entry → HasStart graph n
   -- what a task needs is carried to it
   pub variables : (n : ℕ) (t : Task) (m : GraphMethod) (v : ℕ) → IsTask graph n t → IsMethod graph t.method m → IsNeeded graph.tasks m.code v t.at → IsIn v t.vars
+  -- what a join carries, the visit carried
+  pub joins : (n join at : ℕ) (t u : Task) (v : ℕ) → IsTask graph n t → ReachesCode graph t at (instr.Part join) → IsTask graph join u → IsIn v u.vars → IsIn v t.vars
   pub spends : (method at : ℕ) (i : Instr) → HasCode graph method at i → SpendsBefore i → IsBehindTurn graph method at
   pub accesses : (method at n : ℕ) → HasCode graph method at (instr.Part n) → IsBehindAccess graph method at
 

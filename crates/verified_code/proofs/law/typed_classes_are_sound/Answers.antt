@@ -1,4 +1,3 @@
-use Rattle.verified_code.specs.Sound.{TypedClassesAreSound}
 use Rattle.verified_code.proofs.Sound as sound
 use Rattle.verified_code.proofs.law.typed_classes_are_sound.Goals as goal
 

@@ -1,4 +1,3 @@
-use Rattle.verified_code.specs.Cut.{TypedClassesAreWellCut}
 use Rattle.verified_code.proofs.WellCut as well_cut
 use Rattle.verified_code.proofs.law.typed_classes_are_well_cut.Goals as goal
 
