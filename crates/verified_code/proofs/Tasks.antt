@@ -1,5 +1,5 @@
 -- What the tasks of a typed class carry, and where they begin.
-use Rattle.std.proofs.Common.{◌≡◌, ◌≢◌, refl, sym, ap, subst, ◌∙◌, ℕ, zero, suc, ◌+◌, ◌<◌, ◌≤◌, arith, Bool, true, false, List, [], ◌∷◌, length, drop, Option, Some, None, slice_get, ◌⊎◌, inl, inr}
+use Rattle.std.proofs.Common.{◌≡◌, ◌≢◌, refl, sym, ap, subst, ◌∙◌, ℕ, zero, suc, ◌+◌, ◌-◌, ◌<◌, ◌≤◌, arith, Bool, true, false, List, [], ◌∷◌, length, drop, Option, Some, None, slice_get, ◌⊎◌, inl, inr}
 use Rattle.std.specs.List.{range_with_len}
 use Rattle.state_classes.specs.declared.method.Method.{Method}
 use Rattle.java_tree.specs.declared.tree.Class.{Class}
@@ -14,7 +14,7 @@ use Rattle.flat_code.specs.declared.graph.Task.{Task}
 use Rattle.flat_code.specs.declared.graph.TaskKind.TheVariants as kind
 use Rattle.flat_code.specs.Fits.{parameters}
 use Rattle.flat_code.specs.Types.{field_named}
-use Rattle.flat_code.specs.Ways.{IsIn, IsFirst, IsLater, needs, writes, variables_of, Reaches, ReachesStart, ReachesNext, IsLive, IsRead, IsReadLater, IsNeeded, NeededHere, NeededLater}
+use Rattle.flat_code.specs.Ways.{IsIn, IsFirst, IsLater, next_of, needs, writes, variables_of, Reaches, ReachesStart, ReachesNext, IsLive, IsRead, IsReadLater, IsNeeded, NeededHere, NeededLater}
 use Rattle.flat_code.specs.Verified.{IsTask, IsMethod, HasCode, HasStart, SpendsBefore, IsOnlyBehind, IsBehindTurn, IsBehindAccess, ReachesCode}
 use Rattle.access_blocks.specs.declared.body.Program.{Program}
 use Rattle.body_code.specs.ClassCode.{code_of_class, graph_kind}
@@ -22,7 +22,7 @@ use Rattle.body_code.specs.Checking.{Standing, IsTyped}
 use Rattle.live_vars.specs.Sets.{AreLive, AreLiveSets}
 use Rattle.task_cutter.specs.Tasks.{graph_of, first_field, is_visit, cut_kind, kind_by, is_partitioned}
 use Rattle.task_cutter.specs.Numbers.{ends, start_number, number_behind, HasEntryCode, AreCutBehind}
-use Rattle.verified_code.proofs.Labels.{Behind, Anything, Turning, Accessing, Label, Setting, MayRead, IsKnown, IsCollection, Suits, Right}
+use Rattle.verified_code.proofs.Labels.{Behind, Anything, Turning, Accessing, Label, Setting, MayRead, IsKnown, IsCollection, Suits, AtAccess, InBlock, InVisit, AtLoad, Plainly, Visiting, AtCut, ToBlock, ToVisit, Right}
 use Rattle.verified_code.proofs.Making.{next_is}
 use Rattle.verified_code.proofs.Typed.{none_some, some_is}
 use Rattle.verified_code.proofs.Classes.{own, setting}
@@ -105,7 +105,7 @@ module _ (class : Class) (program : Program) (live : List (List (List ℕ))) (ty
   -- what a task is: the start of a method, or what stands behind a cut or a part
   pub data TaskIs (k : ℕ) (t : Task) : Type 0 where
     Starts : (n : ℕ) (m : GraphMethod) → IsMethod graph n m → k ≡ start_number flat.methods n → t.method ≡ n → t.at ≡ 0 → t.kind ≡ kind.Start → t.vars ≡ parameters m → TaskIs k t
-    BehindCut : (n at u : ℕ) (m : GraphMethod) → IsMethod graph n m → slice_get m.code at ≡ Some (instr.Cut u) → t.method ≡ n → t.at ≡ suc at → t.kind ≢ kind.Start → AreLive m.code (suc at) t.vars → TaskIs k t
+    BehindCut : (n at u : ℕ) (m : GraphMethod) → IsMethod graph n m → slice_get m.code at ≡ Some (instr.Cut u) → k ≡ number_behind flat.methods n m at → t.method ≡ n → t.at ≡ suc at → t.kind ≢ kind.Start → AreLive m.code (suc at) t.vars → TaskIs k t
     BehindPart : (n at u : ℕ) (m : GraphMethod) → IsMethod graph n m → slice_get m.code at ≡ Some (instr.Part u) → t.method ≡ n → t.at ≡ suc at → t.kind ≡ kind.Join → AreLive m.code (suc at) t.vars → TaskIs k t
 
   same_task : (k j : ℕ) (t u : Task) → IsTask graph k t → k ≡ j → IsTask graph j u → u ≡ t
@@ -115,7 +115,7 @@ module _ (class : Class) (program : Program) (live : List (List (List ℕ))) (ty
   by_cut k n at u m t is number code =
       let c = behinds.cuts n at u m code in
       let same = same_task k (number_behind flat.methods n m at) t c.of is number c.is_task in
-      BehindCut n at u m code.is_method code.is_code (ap (λ (x : Task). x.method) (sym same) ∙ c.in_method) (ap (λ (x : Task). x.at) (sym same) ∙ c.right_behind)
+      BehindCut n at u m code.is_method code.is_code number (ap (λ (x : Task). x.method) (sym same) ∙ c.in_method) (ap (λ (x : Task). x.at) (sym same) ∙ c.right_behind)
         (λ e. no_start_kind flat.fields (first_field (drop (suc at) m.code)) (is_visit (drop (suc at) m.code)) (sym c.has_kind ∙ ap (λ (x : Task). x.kind) same ∙ e))
         (subst (λ (x : Task). AreLive m.code (suc at) x.vars) same c.variables)
 
@@ -155,7 +155,7 @@ module _ (class : Class) (program : Program) (live : List (List (List ℕ))) (ty
         number = start_number flat.methods n; of = c.of; is_task = c.is_task; is_start = c.starts; of_method = c.in_method;
         only = λ k t is_task is_start in_method. (elim (task_is k t is_task) [
           | Starts o x is_x number own_method at_first starting vars ↦ number ∙ ap (start_number flat.methods) (sym own_method ∙ in_method)
-          | BehindCut o at u x is_x code own_method behind other vars ↦ absurd (other is_start)
+          | BehindCut o at u x is_x code numbered own_method behind other vars ↦ absurd (other is_start)
           | BehindPart o at u x is_x code own_method behind joins vars ↦ absurd (let e : kind.Join ≡ kind.Start = sym joins ∙ is_start in cc)
         ]);
       }
@@ -170,7 +170,7 @@ module _ (class : Class) (program : Program) (live : List (List (List ℕ))) (ty
   no_task n before m i is code plain k t is_task in_method at =
       elim (task_is k t is_task) [
         | Starts o x is_x number own_method at_first starting vars ↦ (omega (arith, at, at_first))
-        | BehindCut o place u x is_x cut own_method behind other vars ↦
+        | BehindCut o place u x is_x cut numbered own_method behind other vars ↦
           (let same : m ≡ x = some_is m x (sym is ∙ ap (slice_get graph.methods) (sym in_method ∙ own_method) ∙ is_x) in
           let here : before ≡ place = omega (arith, at, behind) in
           let both : i ≡ instr.Cut u = some_is i (instr.Cut u) (sym code ∙ ap (λ (y : GraphMethod). slice_get y.code before) same ∙ ap (slice_get x.code) here ∙ cut) in
@@ -272,7 +272,7 @@ module _ (class : Class) (program : Program) (live : List (List (List ℕ))) (ty
           let known = live_known (setting class program graph.tasks k.m k.b k.task) (bodies.at_first k.b) (own class program graph.tasks k.m k.b k.task).code k.labels v 0 live_own in
           let few : v < m.params = subst (λ (z : GraphMethod). v < z.params) k.is (first_read class program graph.tasks typed k.m k.b k.task v k.body k.labels known) in
           subst (λ (vs : List ℕ). IsIn v vs) (sym (vars ∙ ap parameters same)) (range_has v 0 m.params (omega arith) (omega (arith, few))))
-        | BehindCut o at u x is_x code own_method behind other vars ↦
+        | BehindCut o at u x is_x code numbered own_method behind other vars ↦
           (let same : x ≡ m = same_method t.method m x is (ap (slice_get graph.methods) own_method ∙ is_x) in
           vars.whole v (subst (λ (z : GraphMethod). IsLive z.code v (suc at)) (sym same) (subst (λ (a : ℕ). IsLive m.code v a) behind alive)))
         | BehindPart o at u x is_x code own_method behind joins vars ↦
@@ -312,10 +312,123 @@ module _ (class : Class) (program : Program) (live : List (List (List ℕ))) (ty
       elim (task_is q t is_task) [
         | Starts o x is_x number own_method at_first starting vars ↦
           absurd (let first : (l.lab 0).visit ≡ Some at = subst (λ (a : ℕ). (l.lab a).visit ≡ Some at) at_first back.0 in none_some at (sym l.first_is.stays.visit ∙ first))
-        | BehindCut o place x_t x is_x code own_method behind other vars ↦
+        | BehindCut o place x_t x is_x code numbered own_method behind other vars ↦
           (let same_m : x ≡ m = same_method n m x way.is_method (ap (slice_get graph.methods) own_method ∙ is_x) in
           vars.whole v (subst (λ (z : GraphMethod). IsLive z.code v (suc place)) (sym same_m) (subst (λ (a : ℕ). IsLive m.code v a) behind back.1)))
         | BehindPart o place x_t x is_x code own_method behind join_kind vars ↦
           (let same_m : x ≡ m = same_method n m x way.is_method (ap (slice_get graph.methods) own_method ∙ is_x) in
           vars.whole v (subst (λ (z : GraphMethod). IsLive z.code v (suc place)) (sym same_m) (subst (λ (a : ℕ). IsLive m.code v a) behind back.1)))
       ]
+
+  -- ---- one visit for a part
+
+  back_visit : (n : ℕ) (m : GraphMethod) (k : Of n m) (part start at : ℕ) → Reaches m.code start at → ((labels_of n m k).lab at).visit ≡ Some part → ((labels_of n m k).lab start).visit ≡ Some part
+  back_visit n m k part start at ReachesStart e = e
+  back_visit n m k part start at (ReachesNext place next i reach code goes) e = back_visit n m k part start place reach (sym (((labels_of n m k).right place i code).stays next goes).visit ∙ e)
+
+  -- a visit goes on to the next place, up to its part
+  visit_next : (s : Setting) (lab : ℕ → Label) (at : ℕ) (i : Instr) (part : ℕ) → Right s lab at i → (lab at).visit ≡ Some part → at ≢ part → ((lab (suc at)).visit ≡ Some part) × (at < part) × IsIn (suc at) (next_of at i)
+  visit_next s lab at (instr.Load v) part r e other = ((r.stays (suc at) (IsFirst [])).visit ∙ e, by r.own, IsFirst [])
+    where
+      by : AtLoad lab at → at < part
+      by (Plainly plain) = absurd (none_some part (sym plain ∙ e))
+      by (Visiting q visit less) = (let same = some_is q part (sym visit ∙ e) in omega (arith, same, less))
+  visit_next s lab at (instr.Access name m) part r e other = ((r.stays (suc at) (IsFirst [])).visit ∙ e, by r.own, IsFirst [])
+    where
+      by : AtAccess s lab at name m → at < part
+      by (InBlock f plain g h) = absurd (none_some part (sym plain ∙ e))
+      by (InVisit f sig visit g h a b) = (let same = some_is (suc at) part (sym visit ∙ e) in omega (arith, same))
+  visit_next s lab at (instr.Part t) part r e other = absurd (other (some_is at part (sym r.own.visit ∙ e)))
+  visit_next s lab at (instr.Cut t) part r e other = absurd (none_some part (sym r.own.plain ∙ e))
+  visit_next s lab at instr.Key part r e other = absurd (none_some part (sym r.own.plain ∙ e))
+  visit_next s lab at (instr.Merge x) part r e other = absurd (none_some part (sym r.own.plain ∙ e))
+  visit_next s lab at (instr.Call x) part r e other = absurd (none_some part (sym r.own.plain ∙ e))
+  visit_next s lab at _ part r e other = absurd (none_some part (sym r.own ∙ e))
+
+  no_cut_between : (n : ℕ) (m : GraphMethod) (k : Of n m) (part d a place u : ℕ) → place ≡ a + d → ((labels_of n m k).lab a).visit ≡ Some part → a < length m.code → place < part → slice_get m.code place ≡ Some (instr.Cut u) → ⊥
+  no_cut_between n m k part zero a place u e visit within below code =
+      let here : place ≡ a = omega (arith, e) in
+      none_some part (sym ((labels_of n m k).right place (instr.Cut u) code).own.plain ∙ subst (λ (x : ℕ). ((labels_of n m k).lab x).visit ≡ Some part) (sym here) visit)
+  no_cut_between n m k part (suc d) a place u e visit within below code =
+      let l = labels_of n m k in
+      let i = found m.code a within in
+      let other : a ≢ part = (λ same. omega (arith, e, below, same)) in
+      let next = visit_next (setting class program graph.tasks k.m k.b k.task) l.lab a i.0 part (l.right a i.0 i.1) visit other in
+      no_cut_between n m k part d (suc a) place u (omega (arith, e)) next.0 (l.inside a i.0 (suc a) i.1 next.2) below code
+    where
+      found : {A : Type 0} (xs : List A) (n : ℕ) → n < length xs → (x : A) × (slice_get xs n ≡ Some x)
+      found [] n h = absurd (omega (arith, h))
+      found (x ∷ xs) zero h = (x, refl)
+      found (x ∷ xs) (suc n) h = found xs n (omega (arith, h))
+
+  -- a visit begins before its part
+  begins_before : (n : ℕ) (m : GraphMethod) (k : Of n m) (part place u : ℕ) → slice_get m.code place ≡ Some (instr.Cut u) → ((labels_of n m k).lab (suc place)).visit ≡ Some part → suc place < part
+  begins_before n m k part place u code e = by ((labels_of n m k).right place (instr.Cut u) code).own.to
+    where
+      by : AtCut (setting class program graph.tasks k.m k.b k.task) (labels_of n m k).lab place → suc place < part
+      by (ToBlock f h is key plain a b) = absurd (none_some part (sym plain ∙ e))
+      by (ToVisit f q h is p stack visit less a b) = (let same = some_is q part (sym visit ∙ e) in omega (arith, same, less))
+
+  same_cut : (n : ℕ) (m : GraphMethod) (k : Of n m) (part p q u w : ℕ) → slice_get m.code p ≡ Some (instr.Cut u) → slice_get m.code q ≡ Some (instr.Cut w) → ((labels_of n m k).lab (suc p)).visit ≡ Some part → ((labels_of n m k).lab (suc q)).visit ≡ Some part → p < q → ⊥
+  same_cut n m k part p q u w cut_p cut_q visit_p visit_q less =
+      let below = begins_before n m k part q w cut_q visit_q in
+      let within = get_within m.code q (instr.Cut w) cut_q in
+      no_cut_between n m k part (q - suc p) (suc p) q w (omega (arith, less)) visit_p (omega (arith, within, less)) (omega (arith, below)) cut_q
+
+  record VisitCut (n : ℕ) (m : GraphMethod) (k : Of n m) (number part at : ℕ) : Type 0 where
+    place : ℕ
+    names : ℕ
+    is_cut : slice_get m.code place ≡ Some (instr.Cut names)
+    is : number ≡ number_behind flat.methods n m place
+    visit : ((labels_of n m k).lab (suc place)).visit ≡ Some part
+
+  visit_cut : (n : ℕ) (m : GraphMethod) (is : IsMethod graph n m) (k : Of n m) (q part : ℕ) (t : Task) → IsTask graph q t → t.kind ≡ kind.Visit → t.method ≡ n → ((labels_of n m k).lab t.at).visit ≡ Some part → VisitCut n m k q part t.at
+  visit_cut n m is k q part t is_task visiting in_method visit =
+      elim (task_is q t is_task) [
+        | Starts o x is_x number own_method at_first starting vars ↦ absurd (let e : kind.Start ≡ kind.Visit = sym starting ∙ visiting in cc)
+        | BehindPart o place u x is_x code own_method behind join_kind vars ↦ absurd (let e : kind.Join ≡ kind.Visit = sym join_kind ∙ visiting in cc)
+        | BehindCut o place u x is_x code numbered own_method behind other vars ↦
+          (let same_n : o ≡ n = sym own_method ∙ in_method in
+          let same_m : x ≡ m = same_method n m x is (ap (slice_get graph.methods) (sym same_n) ∙ is_x) in
+          record {
+            place = place; names = u;
+            is_cut = ap (λ (z : GraphMethod). slice_get z.code place) (sym same_m) ∙ code;
+            is = numbered ∙ ap (λ (j : ℕ). number_behind flat.methods j x place) same_n ∙ ap (λ (z : GraphMethod). number_behind flat.methods n z place) same_m;
+            visit = subst (λ (a : ℕ). ((labels_of n m k).lab a).visit ≡ Some part) behind visit })
+      ]
+
+  part_task : (t : Task) (at join : ℕ) → ReachesCode graph t at (instr.Part join) → (of : Task) × IsTask graph join of × (of.method ≡ t.method) × (of.at ≡ suc at)
+  part_task t at join way =
+      let m = way.of in
+      let k = lays class program graph.tasks typed t.method m way.is_method in
+      let r = (labels_of t.method m k).right at (instr.Part join) way.is_code in
+      let entry : m.kind ≡ method_kind.Entry = ap (λ (z : GraphMethod). z.kind) (sym k.is) ∙ ap graph_kind (r.kind.entry refl) in
+      let c = behinds.parts t.method at join m (record { is_method = way.is_method; is_entry = entry; is_code = way.is_code }) in
+      let number = part_named class program graph.tasks typed t.method at join m way.is_method entry way.is_code in
+      (c.of, ap (slice_get graph.tasks) number ∙ c.is_task, c.in_method, c.right_behind)
+
+  pub one_visit_a_part : (q j join : ℕ) (t u : Task) (at other : ℕ) → IsTask graph q t → IsTask graph j u → t.kind ≡ kind.Visit → u.kind ≡ kind.Visit
+      → ReachesCode graph t at (instr.Part join) → ReachesCode graph u other (instr.Part join) → q ≡ j
+  one_visit_a_part q j join t u at other is_t is_u visit_t visit_u way_t way_u =
+      let a = part_task t at join way_t in
+      let b = part_task u other join way_u in
+      let same : a.0 ≡ b.0 = some_is a.0 b.0 (sym a.1 ∙ b.1) in
+      let in_method : u.method ≡ t.method = sym b.2 ∙ ap (λ (x : Task). x.method) (sym same) ∙ a.2 in
+      let place : other ≡ at = (let e : suc other ≡ suc at = sym b.3 ∙ ap (λ (x : Task). x.at) (sym same) ∙ a.3 in omega (arith, e)) in
+      let n = t.method in
+      let m = way_t.of in
+      let k = lays class program graph.tasks typed n m way_t.is_method in
+      let l = labels_of n m k in
+      let same_m : way_u.of ≡ m = same_method n m way_u.of way_t.is_method (ap (slice_get graph.methods) (sym in_method) ∙ way_u.is_method) in
+      let at_part = (l.right at (instr.Part join) way_t.is_code).own.visit in
+      let first = visit_cut n m way_t.is_method k q at t is_t visit_t refl (back_visit n m k at t.at at way_t.reaches at_part) in
+      let reaches : Reaches m.code u.at at = subst (λ (e : ℕ). Reaches m.code u.at e) place (subst (λ (z : GraphMethod). Reaches z.code u.at other) same_m way_u.reaches) in
+      let second = visit_cut n m way_t.is_method k j at u is_u visit_u in_method (back_visit n m k at u.at at reaches at_part) in
+      let equal : first.place ≡ second.place = elim (below_or first.place second.place) [
+        | inl less ↦ absurd (same_cut n m k at first.place second.place first.names second.names first.is_cut second.is_cut first.visit second.visit less)
+        | inr most ↦ elim (below_or second.place first.place) [
+            | inl less ↦ absurd (same_cut n m k at second.place first.place second.names first.names second.is_cut first.is_cut second.visit first.visit less)
+            | inr least ↦ (omega (arith, most, least))
+          ]
+      ] in
+      first.is ∙ ap (number_behind flat.methods n m) equal ∙ sym second.is

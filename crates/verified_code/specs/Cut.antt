@@ -7,6 +7,7 @@ use Rattle.flat_code.specs.declared.graph.Instr.{Instr}
 use Rattle.flat_code.specs.declared.graph.Instr.TheVariants as instr
 use Rattle.flat_code.specs.declared.graph.MethodKind.TheVariants as method_kind
 use Rattle.flat_code.specs.declared.graph.Task.{Task}
+use Rattle.flat_code.specs.declared.graph.TaskKind.TheVariants as kind
 use Rattle.flat_code.specs.Ways.{IsIn, IsNeeded}
 use Rattle.flat_code.specs.Verified.{IsMethod, IsTask, NamesSomething, ReachesCode, HasCode, HasStart, SpendsBefore, IsBehindTurn, IsBehindAccess}
 use Rattle.access_blocks.specs.declared.body.Program.{Program}
@@ -18,6 +19,8 @@ use Rattle.task_cutter.specs.Tasks.{graph_of}
 pub record IsWellCut (graph : Graph) : Type 0 where
   pub numbers : (n : ℕ) (m : GraphMethod) (at : ℕ) (i : Instr) → IsMethod graph n m → slice_get m.code at ≡ Some i → NamesSomething graph m i
   pub starts : (n : ℕ) (m : GraphMethod) → IsMethod graph n m → m.kind ≡ method_kind.Entry → HasStart graph n
+  pub one_visit_a_part : (n k join : ℕ) (t u : Task) (at other : ℕ) → IsTask graph n t → IsTask graph k u → t.kind ≡ kind.Visit → u.kind ≡ kind.Visit
+      → ReachesCode graph t at (instr.Part join) → ReachesCode graph u other (instr.Part join) → n ≡ k
   -- what a task needs is carried to it
   pub variables : (n : ℕ) (t : Task) (m : GraphMethod) (v : ℕ) → IsTask graph n t → IsMethod graph t.method m → IsNeeded graph.tasks m.code v t.at → IsIn v t.vars
   -- what a join carries, the visit carried
