@@ -53,9 +53,9 @@ know_kept (u ∷ vs) st v h = know_kept vs (with_known u st) v (still_known v u 
 know_has : (vs : List ℕ) (st : Standing) (v : ℕ) → is_in v vs ≡ true → Knows (know vs st) v
 know_has [] st v h = absurd (false≢true h)
 know_has (u ∷ vs) st v h = elim (or_is (nat_eq v u) (is_in v vs) h) [
-    | inl e ↦ know_kept vs (with_known u st) v (subst (λ (n : ℕ). Knows (with_known n st) v) (eqb-true v u e) (now_known v st))
-    | inr later ↦ know_has vs (with_known u st) v later
-  ]
+  | inl e ↦ know_kept vs (with_known u st) v (subst (λ (n : ℕ). Knows (with_known n st) v) (eqb-true v u e) (now_known v st))
+  | inr later ↦ know_has vs (with_known u st) v later
+]
 
 in_both : (v : ℕ) (xs ys : List ℕ) → is_in v (xs ++ ys) ≡ true → (is_in v xs ≡ true) ⊎ (is_in v ys ≡ true)
 in_both v [] ys h = inr h
@@ -192,6 +192,7 @@ no_end s lab at (instr.Cut t) next r h e = by r.own.to
   where
     here : (lab (suc at)).visit ≡ Some 0
     here = subst (λ (n : ℕ). (lab n).visit ≡ Some 0) (only_one next (suc at) h) e
+
     by : AtCut s lab at → ⊥
     by (ToBlock field holder is key plain f g) = some_none (lab (suc at)).visit 0 plain here
     by (ToVisit field part holder is p k visit less f g) = (let z = some_is part 0 (sym visit ∙ here) in omega (arith, z, less))
@@ -233,18 +234,18 @@ labelled s first code e open_end some m closed =
       rank = m.rank;
       first_is = begins_with lab 0 (length code) m.labels first [] m.rank e m.begins (omega (arith, long)) agrees eases;
       inside = λ at i next h goes.
-        elim (below_or next (length code)) [
-          | inl less ↦ less
-          | inr more ↦ absurd (elim (below_or (length code) next) [
+          elim (below_or next (length code)) [
+            | inl less ↦ less
+            | inr more ↦ absurd (elim (below_or (length code) next) [
               | inr least ↦ closed lab at i next at_end (right at i h) h goes (omega (arith, least, more))
               | inl beyond ↦ (let is_far : lab next ≡ far = look_far m.labels e next (omega (arith, beyond, long)) in
-                let w = get_within code at i h in
-                elim (comes at i next goes) [
-                  | inl step ↦ omega (arith, step, beyond, w)
-                  | inr j ↦ (let anything : far.behind ≡ Anything = subst (λ (l : Label). l.behind ≡ Anything) is_far ((right at i h).jumps next j) in not_turning anything)
-                ])
+                  let w = get_within code at i h in
+                  elim (comes at i next goes) [
+                    | inl step ↦ omega (arith, step, beyond, w)
+                    | inr j ↦ (let anything : far.behind ≡ Anything = subst (λ (l : Label). l.behind ≡ Anything) is_far ((right at i h).jumps next j) in not_turning anything)
+                  ])
             ])
-        ];
+          ];
       some = some;
     }
   where
@@ -268,7 +269,7 @@ module _ (s : Setting) (w : Whole s) where
   start_made variable.Vector at st r =
       let new = push (suc at) instr.NewVector st (type.Int ∷ []) (type.Vector ∷ []) r refl refl in_none (making.plain s instr.NewVector refl refl) (λ lab h. h) (λ v. refl) in
       both s Anywhere at (suc at) (instr.Int (pos 0) ∷ []) (instr.NewVector ∷ []) st st [] (type.Int ∷ []) (label st (type.Vector ∷ []) r) (omega arith) new
-        (push at (instr.Int (pos 0)) st [] (type.Int ∷ []) new.rank refl refl in_none (making.plain s (instr.Int (pos 0)) refl refl) (λ lab h. h) (λ v. refl))
+      (push at (instr.Int (pos 0)) st [] (type.Int ∷ []) new.rank refl refl in_none (making.plain s (instr.Int (pos 0)) refl refl) (λ lab h. h) (λ v. refl))
 
   module _ (b : Body) (variables_same : b.variables ≡ s.around.context.variables) where
     set_made : (v : ℕ) → HasType s w v → (at : ℕ) (st : Standing) (r : ℕ) → Made s Anywhere at (set_at_start b v) st [] (label (with_known v st) [] r)
@@ -310,10 +311,10 @@ module _ (s : Setting) (w : Whole s) where
     long = refl;
     begins = same_eases st [] 0 0 (omega arith);
     good = λ lab end end_is agrees eases out.
-      (let to_turn : Eases (label st [] 0) (lab at) = subst (λ (l : Label). Eases (label st [] 0) l) (sym agrees.0) (same_eases st [] 0 0 (omega arith)) in
-      let to_jump : Eases (label st [] 1) (lab (suc at)) = subst (λ (l : Label). Eases (label st [] 1) l) (sym agrees.1.0) (same_eases st [] 1 1 (omega arith)) in
-      let last_is : end ≡ suc (suc at) = omega (arith, end_is) in
-      (turn_right s lab at st 0 1 agrees.0 to_jump, (jump s lab (suc at) at st [] 0 agrees.1.0 to_turn (subst (λ (n : ℕ). (lab n).behind ≡ Anything) last_is eases.behind), tt)));
+        (let to_turn : Eases (label st [] 0) (lab at) = subst (λ (l : Label). Eases (label st [] 0) l) (sym agrees.0) (same_eases st [] 0 0 (omega arith)) in
+        let to_jump : Eases (label st [] 1) (lab (suc at)) = subst (λ (l : Label). Eases (label st [] 1) l) (sym agrees.1.0) (same_eases st [] 1 1 (omega arith)) in
+        let last_is : end ≡ suc (suc at) = omega (arith, end_is) in
+        (turn_right s lab at st 0 1 agrees.0 to_jump, (jump s lab (suc at) at st [] 0 agrees.1.0 to_turn (subst (λ (n : ℕ). (lab n).behind ≡ Anything) last_is eases.behind), tt)));
   }
 
   nothing_behind : (xs : List Instr) → xs ++ [] ≡ xs
@@ -332,7 +333,7 @@ module _ (s : Setting) (w : Whole s) where
   ended_by first st code true jumps made void stops is =
       let m = return_last (length code) st (void refl) in
       labelled s first (code ++ instr.ReturnVoid ∷ []) closing refl (front_some code (instr.ReturnVoid ∷ []) (omega arith))
-        (both s Anywhere 0 (length code) code (instr.ReturnVoid ∷ []) first st [] [] closing (omega arith) m (made m.rank)) (closed_here (code ++ instr.ReturnVoid ∷ []))
+      (both s Anywhere 0 (length code) code (instr.ReturnVoid ∷ []) first st [] [] closing (omega arith) m (made m.rank)) (closed_here (code ++ instr.ReturnVoid ∷ []))
   ended_by first st code false true made void stops is =
       let end = instr.Turn ∷ instr.Jump (length code) ∷ [] in
       let m = waiting (length code) st in
@@ -340,12 +341,12 @@ module _ (s : Setting) (w : Whole s) where
   ended_by first st code false false made void stops is =
       subst (λ (xs : List Instr). Labelled s first xs) (sym (nothing_behind code))
       (labelled s first code (label st [] 0) refl (stops_some code (stops refl)) (made 0)
-        (λ lab at i next end r h goes e. (let no_jump = none_any (is_jump_to (length code)) code at i is h in
-          let stay : IsJumpTo next i → ⊥ = (λ j. false≢true (sym no_jump ∙ jumps_tested (length code) i (subst (λ (n : ℕ). IsJumpTo n i) e j))) in
-          elim (comes at i next goes) [
-            | inr j ↦ stay j
-            | inl step ↦ stay (ends_jump at i next (last_ends code at i (stops refl) h (sym step ∙ e)) goes)
-          ])))
+      (λ lab at i next end r h goes e. (let no_jump = none_any (is_jump_to (length code)) code at i is h in
+      let stay : IsJumpTo next i → ⊥ = (λ j. false≢true (sym no_jump ∙ jumps_tested (length code) i (subst (λ (n : ℕ). IsJumpTo n i) e j))) in
+      elim (comes at i next goes) [
+        | inr j ↦ stay j
+        | inl step ↦ stay (ends_jump at i next (last_ends code at i (stops refl) h (sym step ∙ e)) goes)
+      ])))
 
 -- ---- the body
 
@@ -397,10 +398,10 @@ module _ (class : Class) (program : Program) (tasks : List Task) (typed : IsType
       let have = early_have s w (range_with_len 0 b.arity) (all_of (map assigned_in b.statements)) (statements_typed s w b.statements None (at_start b) h.after h.checked) in
       let code = started b ++ piece.from place no_exits in
       let front : (r : ℕ) → Made s Anywhere 0 code (at_first b) [] (label h.after [] r) = (λ r.
-        (let stated = done.made None (at_start b) h.after (inr (refl, refl)) h.checked place no_exits 0 r (omega arith) (carries m b task) in
-        let more = from_more s Anywhere place.at (piece.from place no_exits) (at_start b) (know (early b) (at_first b)) [] (label h.after [] r) (first_covers b) stated in
-        both s Anywhere 0 place.at (started b) (piece.from place no_exits) (at_first b) (know (early b) (at_first b)) [] [] (label h.after [] r) (omega arith) more
-          (started_made s w b refl (early b) have 0 (at_first b) more.rank))) in
+      (let stated = done.made None (at_start b) h.after (inr (refl, refl)) h.checked place no_exits 0 r (omega arith) (carries m b task) in
+      let more = from_more s Anywhere place.at (piece.from place no_exits) (at_start b) (know (early b) (at_first b)) [] (label h.after [] r) (first_covers b) stated in
+      both s Anywhere 0 place.at (started b) (piece.from place no_exits) (at_first b) (know (early b) (at_first b)) [] [] (label h.after [] r) (omega arith) more
+      (started_made s w b refl (early b) have 0 (at_first b) more.rank))) in
       let stops : body_completes b.statements ≡ false → Stops code = (λ e. stops_behind (started b) (piece.from place no_exits) (statements_halt (record { fields = s.graph.fields; context = s.around.context }) b.statements e place no_exits)) in
       subst (λ (end : List Instr). Labelled s (at_first b) (code ++ end)) (sym (ending_is (body_completes b.statements) code))
       (ended_by s w (at_first b) h.after code (body_completes b.statements) (list_any (is_jump_to (length code)) code) front (λ e. void_of (result_type m.result) (h.returns e)) stops refl)

@@ -215,9 +215,9 @@ module _ (class : Class) (program : Program) (tasks : List Task) where
     helper_variables m b task helper less =
         parameters_held (own m b task) b.arity 0 b.variables less
         (λ i u e. (let place : 0 + i ≡ i = omega arith in
-          let none : members_of b.kind b.variables ≡ None = ap (λ (k : MethodKind). members_of k b.variables) helper in
-          let is : variable_type_in (members_of b.kind b.variables) b.variables i ≡ Some (typing.type_by u) = ap (λ (o : Option ValueType). variable_type_in o b.variables i) none ∙ ap typing.one_type e in
-          subst (λ (k : ℕ). type_of_variable (own m b task) k ≡ Some (typing.type_by u)) (sym place) (variable_of b m task i (typing.type_by u) is)))
+        let none : members_of b.kind b.variables ≡ None = ap (λ (k : MethodKind). members_of k b.variables) helper in
+        let is : variable_type_in (members_of b.kind b.variables) b.variables i ≡ Some (typing.type_by u) = ap (λ (o : Option ValueType). variable_type_in o b.variables i) none ∙ ap typing.one_type e in
+        subst (λ (k : ℕ). type_of_variable (own m b task) k ≡ Some (typing.type_by u)) (sym place) (variable_of b m task i (typing.type_by u) is)))
 
     meets : (m : Method) (b : Body) (task n : ℕ) (c : Callee) → slice_get cs n ≡ Some c → Meets (setting m b task) n c
     meets m b task n c e =

@@ -61,9 +61,9 @@ module _ (s : Setting) (first : Standing) (code : List Instr) (l : Labelled s fi
 in_range : (v at n : ℕ) → is_in v (range_with_len at n) ≡ true → v < at + n
 in_range v at zero h = absurd (false≢true h)
 in_range v at (suc n) h = elim (or_is (nat_eq v at) (is_in v (range_with_len (at + 1) n)) h) [
-    | inl e ↦ (let same = eqb-true v at e in omega (arith, same))
-    | inr later ↦ (let less : v < (at + 1) + n = in_range v (at + 1) n later in omega (arith, less))
-  ]
+  | inl e ↦ (let same = eqb-true v at e in omega (arith, same))
+  | inr later ↦ (let less : v < (at + 1) + n = in_range v (at + 1) n later in omega (arith, less))
+]
 
 known_first : (k : MethodKind) (arity v : ℕ) → is_in v (known_parameters k arity) ≡ true → v < arity
 known_first source_kind.Entry arity v h = let less : v < 0 + arity = in_range v 0 arity h in omega (arith, less)
@@ -86,6 +86,7 @@ of_body source_kind.Helper i entry merge = (no_entry (is_of_entry i) entry, no_m
     no_entry : (b : Bool) → (b ≡ true → source_kind.Helper ≡ source_kind.Entry) → b ≡ false
     no_entry true h = absurd (let e = h refl in cc)
     no_entry false h = refl
+
     no_merge : (b : Bool) → (b ≡ true → source_kind.Helper ≡ source_kind.Merge) → b ≡ false
     no_merge true h = absurd (let e = h refl in cc)
     no_merge false h = refl
@@ -94,7 +95,6 @@ of_body source_kind.Merge i entry merge = by (is_of_entry i) entry
     by : (b : Bool) → (b ≡ true → source_kind.Merge ≡ source_kind.Entry) → b ≡ false
     by true h = absurd (let e = h refl in cc)
     by false h = refl
-
 
 pub methods_many : (fs : List GraphField) (ks : List Callee) (ms : List Method) (bs : List Body) (task : ℕ) → length ms ≡ length bs → length (graph_methods fs ks ms bs task) ≡ length ms
 methods_many fs ks [] [] task e = refl
@@ -163,9 +163,9 @@ module _ (class : Class) (program : Program) (tasks : List Task) (typed : IsType
   helpers_read n gm v e =
       let k = lays n gm e in
       subst (λ (z : GraphMethod). z.kind ≢ method_kind.Entry → IsNeeded tasks z.code v 0 → v < z.params) k.is (λ no_entry needed.
-        first_read k.m k.b k.task v k.body k.labels
-        (needed_known (setting class program tasks k.m k.b k.task) (at_first k.b) (own class program tasks k.m k.b k.task).code k.labels tasks
-          (λ at t u is h. absurd (no_entry (is_entry k.b.kind ((k.labels.right at (instr.Cut t) is).kind.entry refl)))) v 0 needed))
+      first_read k.m k.b k.task v k.body k.labels
+      (needed_known (setting class program tasks k.m k.b k.task) (at_first k.b) (own class program tasks k.m k.b k.task).code k.labels tasks
+      (λ at t u is h. absurd (no_entry (is_entry k.b.kind ((k.labels.right at (instr.Cut t) is).kind.entry refl)))) v 0 needed))
 
   pub fields_sound : AreNames (map (λ (field : GraphField). field.name) (fields class program tasks))
   fields_sound = subst AreNames (sym (names_same (fields_in class.members) program.fields typed.same_fields)) typed.names.field_names

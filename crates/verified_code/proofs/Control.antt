@@ -113,13 +113,13 @@ if_only s Out at k end xs st after r k_is end_of covers a =
       long = ap suc a.long;
       begins = same_eases st (type.Boolean ∷ []) (suc a.rank) (suc a.rank) (omega arith);
       good = λ lab last last_is agrees eases out.
-        (let same : end ≡ last = omega (arith, end_of, last_is, k_is) in
-        let rest : Agrees lab k a.labels = subst (λ (n : ℕ). Agrees lab n a.labels) (sym k_is) agrees.1 in
-        let enters = begins_with lab k last a.labels st [] a.rank (label after [] r) a.begins (omega (arith, last_is, long, k_is)) rest eases in
-        let on : Eases (label st [] a.rank) (lab (suc at)) = subst (λ (n : ℕ). Eases (label st [] a.rank) (lab n)) k_is enters in
-        let over : Eases (label st [] a.rank) (lab end) = subst (λ (n : ℕ). Eases (label st [] a.rank) (lab n)) (sym same) (eases_on (covered st after [] r a.rank above covers) eases) in
-        let code : Good s lab k xs = a.good lab last (omega (arith, last_is, k_is)) rest eases out in
-        (test s lab at end st [] a.rank agrees.0 on over, subst (λ (n : ℕ). Good s lab n xs) k_is code));
+          (let same : end ≡ last = omega (arith, end_of, last_is, k_is) in
+          let rest : Agrees lab k a.labels = subst (λ (n : ℕ). Agrees lab n a.labels) (sym k_is) agrees.1 in
+          let enters = begins_with lab k last a.labels st [] a.rank (label after [] r) a.begins (omega (arith, last_is, long, k_is)) rest eases in
+          let on : Eases (label st [] a.rank) (lab (suc at)) = subst (λ (n : ℕ). Eases (label st [] a.rank) (lab n)) k_is enters in
+          let over : Eases (label st [] a.rank) (lab end) = subst (λ (n : ℕ). Eases (label st [] a.rank) (lab n)) (sym same) (eases_on (covered st after [] r a.rank above covers) eases) in
+          let code : Good s lab k xs = a.good lab last (omega (arith, last_is, k_is)) rest eases out in
+          (test s lab at end st [] a.rank agrees.0 on over, subst (λ (n : ℕ). Good s lab n xs) k_is code));
     }
 
 -- a turn of which the next place may be anything
@@ -158,7 +158,7 @@ module _ (s : Setting) (w : Whole s) where
     proper = λ exits st after proper e. same_standing s w after st (some_is st after e) proper;
     grows = λ exits st after e v h. same_known s w after st (some_is st after e) v h;
     made = λ exits st after proper e p to least r less carries.
-      subst (λ (z : Standing). Made s (Leads exits to least) p.at [] st [] (label z [] r)) (some_is st after e) (none s (Leads exits to least) p.at st [] r);
+        subst (λ (z : Standing). Made s (Leads exits to least) p.at [] st [] (label z [] r)) (some_is st after e) (none s (Leads exits to least) p.at st [] r);
   }
 
   more_done : (p : Piece) (k : Checking) (ps : List Piece) (ks : List Checking) → Pieced s p k → Pieced s (in_order ps) (checking.in_order ks) → Pieced s (in_order (p ∷ ps)) (checking.in_order (k ∷ ks))
@@ -167,12 +167,12 @@ module _ (s : Setting) (w : Whole s) where
     proper = λ exits st after proper e. (let m = next_of_is (checking.in_order ks exits) (k exits st) after e in b.proper exits m.0 after (a.proper exits st m.0 proper m.1) m.2);
     grows = λ exits st after e v h. (let m = next_of_is (checking.in_order ks exits) (k exits st) after e in b.grows exits m.0 after m.2 v (a.grows exits st m.0 m.1 v h));
     made = λ exits st after proper e p to least r less carries.
-      (let m = next_of_is (checking.in_order ks exits) (k exits st) after e in
-      let behind = behind_piece p piece in
-      let rest = b.made exits m.0 after (a.proper exits st m.0 proper m.1) m.2 behind to least r less (carries_right s piece.carried (in_order ps).carried p.variable carries) in
-      let above = rest.above in
-      let long = a.long p to in
-      both s (Leads exits to least) p.at behind.at (piece.from p to) ((in_order ps).from behind to) st m.0 [] [] (label after [] r) (omega (arith, long)) rest
+        (let m = next_of_is (checking.in_order ks exits) (k exits st) after e in
+        let behind = behind_piece p piece in
+        let rest = b.made exits m.0 after (a.proper exits st m.0 proper m.1) m.2 behind to least r less (carries_right s piece.carried (in_order ps).carried p.variable carries) in
+        let above = rest.above in
+        let long = a.long p to in
+        both s (Leads exits to least) p.at behind.at (piece.from p to) ((in_order ps).from behind to) st m.0 [] [] (label after [] r) (omega (arith, long)) rest
         (a.made exits st m.0 proper m.1 p to least rest.rank (omega (arith, less, above)) (carries_left s piece.carried (in_order ps).carried p.variable carries)));
   }
 
@@ -193,9 +193,9 @@ module _ (s : Setting) (w : Whole s) where
     proper = λ exits st after proper e. (let m = compound_is st (k exits st) after e in same_standing s w after (after_compound st m.0) m.2 (a.proper exits st m.0 proper m.1));
     grows = λ exits st after e v h. (let m = compound_is st (k exits st) after e in same_known s w after (after_compound st m.0) m.2 v h);
     made = λ exits st after proper e p to least r less carries.
-      (let m = compound_is st (k exits st) after e in
-      subst (λ (z : Standing). Made s (Leads exits to least) p.at (piece.from p to) st [] (label z [] r)) m.2
-      (eased s (Leads exits to least) p.at (piece.from p to) st [] (label m.0 [] r) (label (after_compound st m.0) [] r) (a.made exits st m.0 proper m.1 p to least r less carries)
+        (let m = compound_is st (k exits st) after e in
+        subst (λ (z : Standing). Made s (Leads exits to least) p.at (piece.from p to) st [] (label z [] r)) m.2
+        (eased s (Leads exits to least) p.at (piece.from p to) st [] (label m.0 [] r) (label (after_compound st m.0) [] r) (a.made exits st m.0 proper m.1 p to least r less carries)
         (covered m.0 (after_compound st m.0) [] r r (omega arith) (compound_covers st m.0 (a.grows exits st m.0 m.1)))));
   }
 
@@ -212,11 +212,11 @@ module _ (s : Setting) (w : Whole s) where
     proper = λ exits st after proper e. (let m = opened_is st (k exits (outside st)) after e in same_standing s w after (outside st) m.2 (outside_proper st proper));
     grows = λ exits st after e v h. (let m = opened_is st (k exits (outside st)) after e in same_known s w after (outside st) m.2 v h);
     made = λ exits st after proper e p to least r less carries.
-      (let m = opened_is st (k exits (outside st)) after e in
-      subst (λ (z : Standing). Made s (Leads exits to least) p.at (piece.from p to) st [] (label z [] r)) m.2
-      (from_more s (Leads exits to least) p.at (piece.from p to) (outside st) st [] (label (outside st) [] r) (outside_covers st st (λ v h. h))
+        (let m = opened_is st (k exits (outside st)) after e in
+        subst (λ (z : Standing). Made s (Leads exits to least) p.at (piece.from p to) st [] (label z [] r)) m.2
+        (from_more s (Leads exits to least) p.at (piece.from p to) (outside st) st [] (label (outside st) [] r) (outside_covers st st (λ v h. h))
         (eased s (Leads exits to least) p.at (piece.from p to) (outside st) [] (label m.0 [] r) (label (outside st) [] r) (a.made exits (outside st) m.0 (outside_proper st proper) m.1 p to least r less carries)
-          (covered m.0 (outside st) [] r r (omega arith) (outside_covers st m.0 (a.grows exits (outside st) m.0 m.1))))));
+        (covered m.0 (outside st) [] r r (omega arith) (outside_covers st m.0 (a.grows exits (outside st) m.0 m.1))))));
   }
 
   -- ---- branches
@@ -246,60 +246,60 @@ module _ (s : Setting) (w : Whole s) where
   pub if_done : (x : Expression) (piece : Piece) (k : Checking) → Pieced s piece k → Pieced s (branches (code_of c x) piece None) (branching s.around x k None)
   if_done x piece k a = record {
     long = λ p to. (let e = value_long s w x p.at in let f = a.long (moved 1 (behind_piece p (of_code (code_of c x)))) to in
-      let many = length-append ((code_of c x).from p.at) ((guarded 0 piece).from (behind_piece p (of_code (code_of c x))) to) in omega (arith, e, f, many));
+        let many = length-append ((code_of c x).from p.at) ((guarded 0 piece).from (behind_piece p (of_code (code_of c x))) to) in omega (arith, e, f, many));
     proper = λ exits st after proper e. (let m = branch_is x exits k None st after e in same_standing s w after (meet st m.one m.other) m.after_is (meet_proper st m.one m.other (a.proper exits st m.one proper m.is_one)));
     grows = λ exits st after e v h. (let m = branch_is x exits k None st after e in same_known s w after (meet st m.one m.other) m.after_is v h);
     made = λ exits st after proper e p to least r less carries.
-      (let m = branch_is x exits k None st after e in
-      let Out = Leads exits to least in
-      let test_at = behind_piece p (of_code (code_of c x)) in
-      let body_at = moved 1 test_at in
-      let meeting = meet st m.one m.other in
-      let carried : Carries s piece.carried body_at.variable = (let v : p.variable ≡ p.variable + 0 = omega arith in subst (λ (n : ℕ). Carries s piece.carried n) v carries) in
-      let second : st ≡ m.other = some_is st m.other m.is_other in
-      let covers : Covers st meeting = subst (λ (z : Standing). Covers z meeting) (sym second) (meets_second st m.one m.other (λ v h. subst (λ (z : Standing). Knows z v) second h)) in
-      let long_body = a.long body_at to in
-      let body = eased s Out body_at.at (piece.from body_at to) st [] (label m.one [] r) (label meeting [] r) (a.made exits st m.one proper m.is_one body_at to least r less carried)
+        (let m = branch_is x exits k None st after e in
+        let Out = Leads exits to least in
+        let test_at = behind_piece p (of_code (code_of c x)) in
+        let body_at = moved 1 test_at in
+        let meeting = meet st m.one m.other in
+        let carried : Carries s piece.carried body_at.variable = (let v : p.variable ≡ p.variable + 0 = omega arith in subst (λ (n : ℕ). Carries s piece.carried n) v carries) in
+        let second : st ≡ m.other = some_is st m.other m.is_other in
+        let covers : Covers st meeting = subst (λ (z : Standing). Covers z meeting) (sym second) (meets_second st m.one m.other (λ v h. subst (λ (z : Standing). Knows z v) second h)) in
+        let long_body = a.long body_at to in
+        let body = eased s Out body_at.at (piece.from body_at to) st [] (label m.one [] r) (label meeting [] r) (a.made exits st m.one proper m.is_one body_at to least r less carried)
         (covered m.one meeting [] r r (omega arith) (meets_first st m.one m.other (a.grows exits st m.one m.is_one))) in
-      let tested_body = if_only s Out test_at.at body_at.at (test_at.at + 1 + piece.size + 0) (piece.from body_at to) st meeting r (omega arith) (omega (arith, long_body)) covers body in
-      subst (λ (z : Standing). Made s Out p.at ((branches (code_of c x) piece None).from p to) st [] (label z [] r)) m.after_is
-      (both s Out p.at test_at.at ((code_of c x).from p.at) ((guarded 0 piece).from test_at to) st st [] (type.Boolean ∷ []) (label meeting [] r) (behind_place s w.fit (code_of c x) (value_long s w x) p.at) tested_body
+        let tested_body = if_only s Out test_at.at body_at.at (test_at.at + 1 + piece.size + 0) (piece.from body_at to) st meeting r (omega arith) (omega (arith, long_body)) covers body in
+        subst (λ (z : Standing). Made s Out p.at ((branches (code_of c x) piece None).from p to) st [] (label z [] r)) m.after_is
+        (both s Out p.at test_at.at ((code_of c x).from p.at) ((guarded 0 piece).from test_at to) st st [] (type.Boolean ∷ []) (label meeting [] r) (behind_place s w.fit (code_of c x) (value_long s w x) p.at) tested_body
         (anywhere s w Out p.at ((code_of c x).from p.at) st [] (label st (type.Boolean ∷ []) tested_body.rank) (value_made s w x type.Boolean st proper m.typed p.at [] tested_body.rank))));
   }
 
   pub if_else_done : (x : Expression) (one : Piece) (k : Checking) (two : Piece) (l : Checking) → Pieced s one k → Pieced s two l → Pieced s (branches (code_of c x) one (Some two)) (branching s.around x k (Some l))
   if_else_done x one k two l a b = record {
     long = λ p to. (let e = value_long s w x p.at in
-      let test_at = behind_piece p (of_code (code_of c x)) in
-      let other_at = behind_piece test_at (guarded 1 one) in
-      let f = a.long (moved 1 test_at) to in
-      let g = b.long (moved 1 other_at) to in
-      let some = length-append (one.from (moved 1 test_at) to) ((jumped_over two).from other_at to) in
-      let many = length-append ((code_of c x).from p.at) ((then_piece (guarded 1 one) (jumped_over two)).from test_at to) in omega (arith, e, f, g, some, many));
+        let test_at = behind_piece p (of_code (code_of c x)) in
+        let other_at = behind_piece test_at (guarded 1 one) in
+        let f = a.long (moved 1 test_at) to in
+        let g = b.long (moved 1 other_at) to in
+        let some = length-append (one.from (moved 1 test_at) to) ((jumped_over two).from other_at to) in
+        let many = length-append ((code_of c x).from p.at) ((then_piece (guarded 1 one) (jumped_over two)).from test_at to) in omega (arith, e, f, g, some, many));
     proper = λ exits st after proper e. (let m = branch_is x exits k (Some l) st after e in same_standing s w after (meet st m.one m.other) m.after_is (meet_proper st m.one m.other (a.proper exits st m.one proper m.is_one)));
     grows = λ exits st after e v h. (let m = branch_is x exits k (Some l) st after e in same_known s w after (meet st m.one m.other) m.after_is v h);
     made = λ exits st after proper e p to least r less carries.
-      (let m = branch_is x exits k (Some l) st after e in
-      let Out = Leads exits to least in
-      let test_at = behind_piece p (of_code (code_of c x)) in
-      let body_at = moved 1 test_at in
-      let jump_at = behind_piece test_at (guarded 1 one) in
-      let other_at = moved 1 jump_at in
-      let meeting = meet st m.one m.other in
-      let v : p.variable ≡ p.variable + 0 = omega arith in
-      let whole : Carries s (one.carried ++ two.carried) (p.variable + 0) = subst (λ (n : ℕ). Carries s (one.carried ++ two.carried) n) v carries in
-      let long_one = a.long body_at to in
-      let long_two = b.long other_at to in
-      let first = eased s Out body_at.at (one.from body_at to) st [] (label m.one [] (suc r)) (label meeting [] (suc r)) (a.made exits st m.one proper m.is_one body_at to least (suc r) (omega (arith, less)) (carries_left s one.carried two.carried (p.variable + 0) whole))
+        (let m = branch_is x exits k (Some l) st after e in
+        let Out = Leads exits to least in
+        let test_at = behind_piece p (of_code (code_of c x)) in
+        let body_at = moved 1 test_at in
+        let jump_at = behind_piece test_at (guarded 1 one) in
+        let other_at = moved 1 jump_at in
+        let meeting = meet st m.one m.other in
+        let v : p.variable ≡ p.variable + 0 = omega arith in
+        let whole : Carries s (one.carried ++ two.carried) (p.variable + 0) = subst (λ (n : ℕ). Carries s (one.carried ++ two.carried) n) v carries in
+        let long_one = a.long body_at to in
+        let long_two = b.long other_at to in
+        let first = eased s Out body_at.at (one.from body_at to) st [] (label m.one [] (suc r)) (label meeting [] (suc r)) (a.made exits st m.one proper m.is_one body_at to least (suc r) (omega (arith, less)) (carries_left s one.carried two.carried (p.variable + 0) whole))
         (covered m.one meeting [] (suc r) (suc r) (omega arith) (meets_first st m.one m.other (a.grows exits st m.one m.is_one))) in
-      let second = eased s Out other_at.at (two.from other_at to) st [] (label m.other [] r) (label meeting [] r) (b.made exits st m.other proper m.is_other other_at to least r less (carries_right s one.carried two.carried (p.variable + 0) whole))
+        let second = eased s Out other_at.at (two.from other_at to) st [] (label m.other [] r) (label meeting [] r) (b.made exits st m.other proper m.is_other other_at to least r less (carries_right s one.carried two.carried (p.variable + 0) whole))
         (covered m.other meeting [] r r (omega arith) (meets_second st m.one m.other (b.grows exits st m.other m.is_other))) in
-      let same : test_at.at + 1 + one.size + 1 ≡ other_at.at = omega arith in
-      let tested_both = if_else s Out test_at.at body_at.at other_at.at (jump_at.at + 1 + two.size) (one.from body_at to) (two.from other_at to) st meeting [] [] r (omega arith) (omega (arith, long_one)) (omega (arith, long_two)) first second in
-      let here : Made s Out test_at.at ((then_piece (guarded 1 one) (jumped_over two)).from test_at to) st (type.Boolean ∷ []) (label meeting [] r) =
+        let same : test_at.at + 1 + one.size + 1 ≡ other_at.at = omega arith in
+        let tested_both = if_else s Out test_at.at body_at.at other_at.at (jump_at.at + 1 + two.size) (one.from body_at to) (two.from other_at to) st meeting [] [] r (omega arith) (omega (arith, long_one)) (omega (arith, long_two)) first second in
+        let here : Made s Out test_at.at ((then_piece (guarded 1 one) (jumped_over two)).from test_at to) st (type.Boolean ∷ []) (label meeting [] r) =
         subst (λ (n : ℕ). Made s Out test_at.at (instr.IfFalse n ∷ (one.from body_at to ++ (instr.Jump (jump_at.at + 1 + two.size) ∷ two.from other_at to))) st (type.Boolean ∷ []) (label meeting [] r)) (sym same) tested_both in
-      subst (λ (z : Standing). Made s Out p.at ((branches (code_of c x) one (Some two)).from p to) st [] (label z [] r)) m.after_is
-      (both s Out p.at test_at.at ((code_of c x).from p.at) ((then_piece (guarded 1 one) (jumped_over two)).from test_at to) st st [] (type.Boolean ∷ []) (label meeting [] r) (behind_place s w.fit (code_of c x) (value_long s w x) p.at) here
+        subst (λ (z : Standing). Made s Out p.at ((branches (code_of c x) one (Some two)).from p to) st [] (label z [] r)) m.after_is
+        (both s Out p.at test_at.at ((code_of c x).from p.at) ((then_piece (guarded 1 one) (jumped_over two)).from test_at to) st st [] (type.Boolean ∷ []) (label meeting [] r) (behind_place s w.fit (code_of c x) (value_long s w x) p.at) here
         (anywhere s w Out p.at ((code_of c x).from p.at) st [] (label st (type.Boolean ∷ []) here.rank) (value_made s w x type.Boolean st proper m.typed p.at [] here.rank))));
   }
 
@@ -315,12 +315,16 @@ module _ (s : Setting) (w : Whole s) where
   keyed : (st : Standing) → Proper s st → (o : Option Holder) (key : Option Expression) → is_key_of s.around st o key ≡ true → KeyOf st o key
   keyed st proper None key e = absurd (false≢true e)
   keyed st proper (Some h) None e = record {
-    holder = h; is = refl; stack = [];
+    holder = h;
+    is = refl;
+    stack = [];
     fits = subst (λ (b : Bool). KeyIs (not b) []) (sym e) refl;
     made = λ at r. none s Anywhere at st [] r;
   }
   keyed st proper (Some h) (Some key) e = record {
-    holder = h; is = refl; stack = type.Long ∷ [];
+    holder = h;
+    is = refl;
+    stack = type.Long ∷ [];
     fits = subst (λ (b : Bool). KeyIs b (type.Long ∷ [])) (sym (and_left (not h.is_partial) (takes s.around st key type.Long) e)) refl;
     made = λ at r. value_made s w key type.Long st proper (takes_is s.around st key type.Long (and_right (not h.is_partial) (takes s.around st key type.Long) e)) at [] r;
   }
@@ -350,7 +354,8 @@ module _ (s : Setting) (w : Whole s) where
       (λ lab here behind. record {
         plain = ap (λ (l : Label). l.visit) here;
         turned = ap (λ (l : Label). l.behind) here;
-        to = ToBlock field h.holder h.is (subst (λ (l : Label). KeyIs (is_partitioned (Some h.holder)) l.stack) (sym here) h.fits) behind.stays.visit behind.stays.field (both_none behind.stays.gathered) })
+        to = ToBlock field h.holder h.is (subst (λ (l : Label). KeyIs (is_partitioned (Some h.holder)) l.stack) (sym here) h.fits) behind.stays.visit behind.stays.field (both_none behind.stays.gathered);
+      })
     where
       both_none : {A : Type 0} {o : Option A} → (o ≡ None) ⊎ (o ≡ None) → o ≡ None
       both_none (inl e) = e
@@ -361,20 +366,20 @@ module _ (s : Setting) (w : Whole s) where
       let key = of_code (key_code (scope s) mark.key) in
       record {
         long = λ p to. (let e = key_long mark.key p.at in
-          let f = a.long (behind_piece (behind_piece p key) cut) to in
-          let many = length-append (key.from p to) ((then_piece cut piece).from (behind_piece p key) to) in omega (arith, e, f, many));
+            let f = a.long (behind_piece (behind_piece p key) cut) to in
+            let many = length-append (key.from p to) ((then_piece cut piece).from (behind_piece p key) to) in omega (arith, e, f, many));
         proper = λ exits st after proper e. (let m = marked_is mark k exits st after e in a.proper exits (in_block mark.field st) after (inl m.0) m.2);
         grows = λ exits st after e v h. (let m = marked_is mark k exits st after e in a.grows exits (in_block mark.field st) after m.2 v h);
         made = λ exits st after proper e p to least r less carries.
-          (let m = marked_is mark k exits st after e in
-          let Out = Leads exits to least in
-          let h = keyed st proper (slice_get s.around.fields mark.field) mark.key m.1 in
-          let cut_at = behind_piece p key in
-          let body_at = behind_piece cut_at cut in
-          let v : p.variable ≡ body_at.variable = omega arith in
-          let body = a.made exits (in_block mark.field st) after (inl m.0) m.2 body_at to least r less (subst (λ (n : ℕ). Carries s piece.carried n) v carries) in
-          let cutting = cut_made Out cut_at.at cut_at.task st mark.field body.rank mark.key h m.0 in
-          let rest = both s Out cut_at.at body_at.at (instr.Turn ∷ instr.Cut cut_at.task ∷ []) (piece.from body_at to) st (in_block mark.field st) h.stack [] (label after [] r) (omega arith) body cutting in
-          both s Out p.at cut_at.at (key.from p to) ((then_piece cut piece).from cut_at to) st st [] h.stack (label after [] r) (behind_place s w.fit (key_code (scope s) mark.key) (key_long mark.key) p.at) rest
+            (let m = marked_is mark k exits st after e in
+            let Out = Leads exits to least in
+            let h = keyed st proper (slice_get s.around.fields mark.field) mark.key m.1 in
+            let cut_at = behind_piece p key in
+            let body_at = behind_piece cut_at cut in
+            let v : p.variable ≡ body_at.variable = omega arith in
+            let body = a.made exits (in_block mark.field st) after (inl m.0) m.2 body_at to least r less (subst (λ (n : ℕ). Carries s piece.carried n) v carries) in
+            let cutting = cut_made Out cut_at.at cut_at.task st mark.field body.rank mark.key h m.0 in
+            let rest = both s Out cut_at.at body_at.at (instr.Turn ∷ instr.Cut cut_at.task ∷ []) (piece.from body_at to) st (in_block mark.field st) h.stack [] (label after [] r) (omega arith) body cutting in
+            both s Out p.at cut_at.at (key.from p to) ((then_piece cut piece).from cut_at to) st st [] h.stack (label after [] r) (behind_place s w.fit (key_code (scope s) mark.key) (key_long mark.key) p.at) rest
             (anywhere s w Out p.at (key.from p to) st [] (label st h.stack rest.rank) (h.made p.at rest.rank)));
       }

@@ -99,9 +99,9 @@ method_with (m ∷ ms) k h =
     elim (below_or k (task_count m m.kind)) [
       | inl less ↦ record { n = 0; m = m; is_method = refl; j = k; few = less; is = omega arith }
       | inr more ↦
-        (let rest = method_with ms (k - task_count m m.kind) (omega (arith, h, more)) in
-        let same = rest.is in
-        record { n = suc rest.n; m = rest.m; is_method = rest.is_method; j = rest.j; few = rest.few; is = omega (arith, same, more) })
+          (let rest = method_with ms (k - task_count m m.kind) (omega (arith, h, more)) in
+          let same = rest.is in
+          record { n = suc rest.n; m = rest.m; is_method = rest.is_method; j = rest.j; few = rest.few; is = omega (arith, same, more) })
     ]
 
 pub entry_count : (m : GraphMethod) (k : FlatKind) (j : ℕ) → j < task_count m k → (k ≡ method_kind.Entry) × (j < suc (ends m.code))
@@ -200,9 +200,9 @@ module _ (class : Class) (program : Program) (tasks : List Task) (typed : IsType
       let first = first_number n gm e in
       let numbered = k.numbered in
       subst (λ (z : GraphMethod). z.kind ≡ method_kind.Entry → slice_get z.code at ≡ Some (instr.Cut t) → t ≡ number_behind (graph class program tasks).methods n z at) k.is (λ entry is.
-        (let number = cut_number (first_cut k.b.kind k.task) (first_cut k.b.kind k.task + (body_piece fs ks k.b).tasks) at t (own class program tasks k.m k.b k.task).code (body_counts k.m k.b k.task) is in
-        let one = cut_first k.b.kind k.task entry in
-        omega (arith, number, one, first, numbered)))
+      (let number = cut_number (first_cut k.b.kind k.task) (first_cut k.b.kind k.task + (body_piece fs ks k.b).tasks) at t (own class program tasks k.m k.b k.task).code (body_counts k.m k.b k.task) is in
+      let one = cut_first k.b.kind k.task entry in
+      omega (arith, number, one, first, numbered)))
 
   pub part_named : (n at t : ℕ) (gm : GraphMethod) → IsMethod (graph class program tasks) n gm → gm.kind ≡ method_kind.Entry → slice_get gm.code at ≡ Some (instr.Part t) → t ≡ number_behind (graph class program tasks).methods n gm at
   part_named n at t gm e =
@@ -210,9 +210,9 @@ module _ (class : Class) (program : Program) (tasks : List Task) (typed : IsType
       let first = first_number n gm e in
       let numbered = k.numbered in
       subst (λ (z : GraphMethod). z.kind ≡ method_kind.Entry → slice_get z.code at ≡ Some (instr.Part t) → t ≡ number_behind (graph class program tasks).methods n z at) k.is (λ entry is.
-        (let number = part_number (first_cut k.b.kind k.task) (first_cut k.b.kind k.task + (body_piece fs ks k.b).tasks) at t (own class program tasks k.m k.b k.task).code (body_counts k.m k.b k.task) is in
-        let one = cut_first k.b.kind k.task entry in
-        omega (arith, number, one, first, numbered)))
+      (let number = part_number (first_cut k.b.kind k.task) (first_cut k.b.kind k.task + (body_piece fs ks k.b).tasks) at t (own class program tasks k.m k.b k.task).code (body_counts k.m k.b k.task) is in
+      let one = cut_first k.b.kind k.task entry in
+      omega (arith, number, one, first, numbered)))
 
   -- ---- calls
 

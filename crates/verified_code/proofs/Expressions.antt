@@ -31,7 +31,7 @@ use Rattle.body_code.specs.ExpressionCode.{Lowered, lowered, lowered_step, code_
 use Rattle.body_code.specs.ClassCode.{graph_kind}
 use Rattle.body_code.specs.Checking.{Surroundings, Standing, has_key, takes_gathered}
 use Rattle.verified_code.proofs.Labels.{Label, label, Setting, Knows, MayRead, IsKnown, IsCollection, Own, Takes, OfKind, Plainly, Made}
-use Rattle.verified_code.proofs.Making.{only_one, in_none, Follows, one, none, both, within, if_else, turned, turning} 
+use Rattle.verified_code.proofs.Making.{only_one, in_none, Follows, one, none, both, within, if_else, turned, turning}
 use Rattle.verified_code.proofs.Making as making
 use Rattle.verified_code.proofs.Typed.{none_some, some_is, operates, and_also, unary_after, plus_same, casts, where_is, alike_is, called_is, is_value, are_values, pushed, without_pushed, and_left}
 use Rattle.verified_code.proofs.Needed.{IsMet, met_left, met_right, one_known}
@@ -211,7 +211,7 @@ module _ (s : Setting) (fit : Fitting s) where
       let rest = all_made cs ts ns h.1 st proper (met_right s.around st n (typing.all_of ns) met) k.1 k.3 (at + c.size) (on_top k.0 stack) r in
       subst (λ (vs : List ValueType). Made s Anywhere at ((codes.all_of (c ∷ cs)).from at) st stack (label st (pushed vs stack) r)) k.4
       (two at (at + c.size) (c.from at) ((codes.all_of cs).from (at + c.size)) st stack (on_top k.0 stack) (pushed k.1 (on_top k.0 stack)) r (behind_place c h.0.long at)
-        (λ q. h.0.made st proper (met_left s.around st n (typing.all_of ns) met) k.0 k.2 at stack q) rest)
+      (λ q. h.0.made st proper (met_left s.around st n (typing.all_of ns) met) k.0 k.2 at stack q) rest)
   all_made [] [] (n ∷ ns) h st proper met us is at stack r = absurd h
   all_made [] (t ∷ ts) ns h st proper met us is at stack r = absurd h
   all_made (c ∷ cs) [] ns h st proper met us is at stack r = absurd h
@@ -227,7 +227,7 @@ module _ (s : Setting) (fit : Fitting s) where
   constant i u n straight takes nothing kind own = record {
     long = λ at. refl;
     made = λ st proper met t is at stack r. giving at (i ∷ []) st stack r u t (some_is u t is)
-      (simple at i st stack (on_top u stack) r (straight at) (takes stack) (λ v h. absurd (nothing v h)) kind (λ lab here. own lab at (plainly lab at st stack (suc r) here)));
+        (simple at i st stack (on_top u stack) r (straight at) (takes stack) (λ v h. absurd (nothing v h)) kind (λ lab here. own lab at (plainly lab at st stack (suc r) here)));
   }
 
   -- an instruction on the value of an operand
@@ -238,8 +238,8 @@ module _ (s : Setting) (fit : Fitting s) where
   operand code T U n i a straight typed may_read kind own = record {
     long = long_behind code i a.long;
     made = λ st proper met t is at stack r.
-      (let k = typed t is in
-      on at (at + code.size) (code.from at) i st stack (on_top k.0 stack) (on_top t stack) r (behind_place code a.long at) (λ q. a.made st proper met k.0 k.1 at stack q)
+        (let k = typed t is in
+        on at (at + code.size) (code.from at) i st stack (on_top k.0 stack) (on_top t stack) r (behind_place code a.long at) (λ q. a.made st proper met k.0 k.1 at stack q)
         (simple (at + code.size) i st (on_top k.0 stack) (on_top t stack) r (straight (at + code.size)) (k.2 stack) (may_read st met) (kind t is) (λ lab here. own lab (at + code.size) (plainly lab (at + code.size) st (on_top k.0 stack) (suc r) here))));
   }
 
@@ -274,7 +274,7 @@ module _ (s : Setting) (fit : Fitting s) where
       let e = long_x (k + 1) in
       let f = long_y (k + x.size + 2) in
       if_else s Anywhere k (k + 1) (k + x.size + 2) (k + x.size + y.size + 2) (x.from (k + 1)) (y.from (k + x.size + 2)) st st stack left r (omega arith) (omega (arith, e)) (omega (arith, f))
-        (first (k + 1) (suc r)) (second (k + x.size + 2) r)
+      (first (k + 1) (suc r)) (second (k + x.size + 2) r)
 
   pub false_code : Code
   false_code = plain (instr.Bool false ∷ [])
@@ -287,7 +287,7 @@ module _ (s : Setting) (fit : Fitting s) where
       → (at r : ℕ) → Made s Anywhere at ((followed_by test (either x y)).from at) st stack (label st left r)
   condition test x y T n a is long_x long_y st stack left proper met first second at r =
       two at (at + test.size) (test.from at) ((either x y).from (at + test.size)) st stack (type.Boolean ∷ stack) left r (behind_place test a.long at)
-        (λ q. a.made st proper met type.Boolean is at stack q) (either_made x y long_x long_y st stack left first second (at + test.size) r)
+      (λ q. a.made st proper met type.Boolean is at stack q) (either_made x y long_x long_y st stack left first second (at + test.size) r)
 
   -- ---- two operands
 
@@ -298,16 +298,16 @@ module _ (s : Setting) (fit : Fitting s) where
   operated op a b T U m n h k = record {
     long = long_behind (followed_by a.code b.code) (instr.Bin op (operand_of a.type)) (long_both a.code b.code h.coded.long k.coded.long);
     made = λ st proper met t is at stack r.
-      (let w = two_are (binary_type op) T U t is in
-      let i = instr.Bin op (operand_of a.type) in
-      let front = followed_by a.code b.code in
-      let place = at + front.size in
-      let takes : Takes s i (on_top w.1 (on_top w.0 stack)) (on_top t stack) =
+        (let w = two_are (binary_type op) T U t is in
+        let i = instr.Bin op (operand_of a.type) in
+        let front = followed_by a.code b.code in
+        let place = at + front.size in
+        let takes : Takes s i (on_top w.1 (on_top w.0 stack)) (on_top t stack) =
         subst (λ (o : Option ValueType). Takes s (instr.Bin op (operand_of o)) (on_top w.1 (on_top w.0 stack)) (on_top t stack)) (sym (h.type ∙ w.2)) (operates s.graph s.of op w.0 w.1 t stack w.4) in
-      on at place (front.from at) i st stack (on_top w.1 (on_top w.0 stack)) (on_top t stack) r (behind_place front (long_both a.code b.code h.coded.long k.coded.long) at)
+        on at place (front.from at) i st stack (on_top w.1 (on_top w.0 stack)) (on_top t stack) r (behind_place front (long_both a.code b.code h.coded.long k.coded.long) at)
         (λ q. two at (at + a.code.size) (a.code.from at) (b.code.from (at + a.code.size)) st stack (on_top w.0 stack) (on_top w.1 (on_top w.0 stack)) q (behind_place a.code h.coded.long at)
-          (λ p. h.coded.made st proper (met_left s.around st m n met) w.0 w.2 at stack p)
-          (k.coded.made st proper (met_right s.around st m n met) w.1 w.3 (at + a.code.size) (on_top w.0 stack) q))
+        (λ p. h.coded.made st proper (met_left s.around st m n met) w.0 w.2 at stack p)
+        (k.coded.made st proper (met_right s.around st m n met) w.1 w.3 (at + a.code.size) (on_top w.0 stack) q))
         (simple place i st (on_top w.1 (on_top w.0 stack)) (on_top t stack) r refl takes (reads_nothing st) (making.plain s i refl refl) (λ lab here. plainly lab place st (on_top w.1 (on_top w.0 stack)) (suc r) here)));
   }
 
@@ -315,22 +315,22 @@ module _ (s : Setting) (fit : Fitting s) where
   binary_coded bin.AndAlso a b T U m n h k = record {
     long = long_both a.code (either b.code (plain (instr.Bool false ∷ []))) h.coded.long (either_long b.code (plain (instr.Bool false ∷ [])) k.coded.long (λ at. refl));
     made = λ st proper met t is at stack r.
-      (let w = two_are (binary_type bin.AndAlso) T U t is in
-      let c = and_also w.0 w.1 t w.4 in
-      let second : U ≡ Some type.Boolean = w.3 ∙ ap Some c.1 in
-      giving at ((binary bin.AndAlso a b).from at) st stack r type.Boolean t (sym c.2)
+        (let w = two_are (binary_type bin.AndAlso) T U t is in
+        let c = and_also w.0 w.1 t w.4 in
+        let second : U ≡ Some type.Boolean = w.3 ∙ ap Some c.1 in
+        giving at ((binary bin.AndAlso a b).from at) st stack r type.Boolean t (sym c.2)
         (condition a.code b.code (plain (instr.Bool false ∷ [])) T m h.coded (w.2 ∙ ap Some c.0) k.coded.long (λ p. refl) st stack (type.Boolean ∷ stack) proper (met_left s.around st m n met)
-          (λ p q. k.coded.made st proper (met_right s.around st m n met) type.Boolean second p stack q) (boolean_made false st stack) at r));
+        (λ p q. k.coded.made st proper (met_right s.around st m n met) type.Boolean second p stack q) (boolean_made false st stack) at r));
   }
   binary_coded bin.OrElse a b T U m n h k = record {
     long = long_both a.code (either (plain (instr.Bool true ∷ [])) b.code) h.coded.long (either_long (plain (instr.Bool true ∷ [])) b.code (λ at. refl) k.coded.long);
     made = λ st proper met t is at stack r.
-      (let w = two_are (binary_type bin.OrElse) T U t is in
-      let c = and_also w.0 w.1 t w.4 in
-      let second : U ≡ Some type.Boolean = w.3 ∙ ap Some c.1 in
-      giving at ((binary bin.OrElse a b).from at) st stack r type.Boolean t (sym c.2)
+        (let w = two_are (binary_type bin.OrElse) T U t is in
+        let c = and_also w.0 w.1 t w.4 in
+        let second : U ≡ Some type.Boolean = w.3 ∙ ap Some c.1 in
+        giving at ((binary bin.OrElse a b).from at) st stack r type.Boolean t (sym c.2)
         (condition a.code (plain (instr.Bool true ∷ [])) b.code T m h.coded (w.2 ∙ ap Some c.0) (λ p. refl) k.coded.long st stack (type.Boolean ∷ stack) proper (met_left s.around st m n met)
-          (boolean_made true st stack) (λ p q. k.coded.made st proper (met_right s.around st m n met) type.Boolean second p stack q) at r));
+        (boolean_made true st stack) (λ p q. k.coded.made st proper (met_right s.around st m n met) type.Boolean second p stack q) at r));
   }
   binary_coded op a b T U m n h k = operated op a b T U m n h k
 
@@ -349,42 +349,54 @@ module _ (s : Setting) (fit : Fitting s) where
   call_coded n cs ts ns h = record {
     long = long_both (codes.all_of cs) (plain (instr.Turn ∷ instr.Call n ∷ [])) (all_long cs ts ns h) (λ at. refl);
     made = λ st proper met t is at stack r.
-      (let c = call_is (slice_get s.around.context.methods n) (all_types ts) t is in
-      let m = fit.methods n c.of c.is in
-      let all = codes.all_of cs in
-      let place = at + all.size in
-      let top = pushed c.of.params stack in
-      two at place (all.from at) (instr.Turn ∷ instr.Call n ∷ []) st stack top (on_top t stack) r (behind_place all (all_long cs ts ns h) at)
+        (let c = call_is (slice_get s.around.context.methods n) (all_types ts) t is in
+        let m = fit.methods n c.of c.is in
+        let all = codes.all_of cs in
+        let place = at + all.size in
+        let top = pushed c.of.params stack in
+        two at place (all.from at) (instr.Turn ∷ instr.Call n ∷ []) st stack top (on_top t stack) r (behind_place all (all_long cs ts ns h) at)
         (λ q. all_made cs ts ns h st proper met c.of.params c.takes at stack q)
         (turned s Anywhere place (instr.Call n) st top (label st (on_top t stack) r) refl
-          (record {
-            falls = omega arith; knows = λ v k. inl k; may_read = λ v k. absurd (in_none v k); stays = λ next k. record { field = inr refl; gathered = inr refl; visit = refl };
-            takes = called_takes n c.of t stack m c.helper c.gives; kind = making.plain s (instr.Call n) refl refl })
-          (λ lab here behind. record {
-            helps = record { of = m.of; is_method = m.is_method; is_kind = m.kind ∙ ap graph_kind c.helper };
-            plain = ap (λ (l : Label). l.visit) here;
-            turned = ap (λ (l : Label). l.behind) here })));
+        (record {
+          falls = omega arith;
+          knows = λ v k. inl k;
+          may_read = λ v k. absurd (in_none v k);
+          stays = λ next k. record { field = inr refl; gathered = inr refl; visit = refl };
+          takes = called_takes n c.of t stack m c.helper c.gives;
+          kind = making.plain s (instr.Call n) refl refl;
+        })
+        (λ lab here behind. record {
+          helps = record { of = m.of; is_method = m.is_method; is_kind = m.kind ∙ ap graph_kind c.helper };
+          plain = ap (λ (l : Label). l.visit) here;
+          turned = ap (λ (l : Label). l.behind) here;
+        })));
   }
 
   merge_coded : (n : ℕ) → Coded s (plain (instr.Turn ∷ instr.Merge n ∷ [])) (typing.merged_type (slice_get s.around.context.methods n)) (typing.merge_alone n)
   merge_coded n = record {
     long = λ at. refl;
     made = λ st proper met t is at stack r.
-      (let c = merge_is (slice_get s.around.context.methods n) t is in
-      let m = fit.methods n c.of c.is in
-      let gathered : takes_gathered s.around st.gathered n ≡ true = and_left (takes_gathered s.around st.gathered n) true met.merges in
-      turned s Anywhere at (instr.Merge n) st stack (label st (on_top t stack) r) refl
+        (let c = merge_is (slice_get s.around.context.methods n) t is in
+        let m = fit.methods n c.of c.is in
+        let gathered : takes_gathered s.around st.gathered n ≡ true = and_left (takes_gathered s.around st.gathered n) true met.merges in
+        turned s Anywhere at (instr.Merge n) st stack (label st (on_top t stack) r) refl
         (record {
-          falls = omega arith; knows = λ v k. inl k; may_read = λ v k. absurd (in_none v k); stays = λ next k. record { field = inr refl; gathered = inr refl; visit = refl };
+          falls = omega arith;
+          knows = λ v k. inl k;
+          may_read = λ v k. absurd (in_none v k);
+          stays = λ next k. record { field = inr refl; gathered = inr refl; visit = refl };
           takes = ap (λ o. merged_type o stack) m.is_method ∙ ap (λ w. Some (on_top w stack)) (m.result ∙ c.gives);
           kind = record {
             entry = λ k. elim proper [ inl entry ↦ entry | inr none ↦ absurd (none_gathered s.around st.gathered n none.1 gathered) ];
-            merge = λ k. absurd (false≢true k) } })
+            merge = λ k. absurd (false≢true k);
+          };
+        })
         (λ lab here behind. record {
           gathered = subst (λ (l : Label). takes_gathered s.around l.standing.gathered n ≡ true) (sym here) gathered;
           merges = record { of = m.of; is_method = m.is_method; is_kind = m.kind ∙ ap graph_kind c.merge };
           plain = ap (λ (l : Label). l.visit) here;
-          turned = ap (λ (l : Label). l.behind) here }));
+          turned = ap (λ (l : Label). l.behind) here;
+        }));
   }
 
   -- ---- all expressions
@@ -418,7 +430,7 @@ module _ (s : Setting) (fit : Fitting s) where
   variable_code i v U straight takes reading kind own = record {
     long = λ at. refl;
     made = λ st proper met t is at stack r.
-      simple at i st stack (on_top t stack) r (straight at) (takes t is stack)
+        simple at i st stack (on_top t stack) r (straight at) (takes t is stack)
         (λ w h. reads_one st v (one_known s.around st v (variable_alone v) met refl) w (subst (λ (ns : List ℕ). IsIn w ns) reading h)) kind (λ lab here. own lab at (plainly lab at st stack (suc r) here));
   }
 
@@ -426,15 +438,17 @@ module _ (s : Setting) (fit : Fitting s) where
   key_coded = record {
     long = λ at. refl;
     made = λ st proper met t is at stack r.
-      (let keyed : has_key s.around st.field ≡ true = met.key in
-      giving at (instr.Key ∷ []) st stack r type.Long t (some_is type.Long t is)
+        (let keyed : has_key s.around st.field ≡ true = met.key in
+        giving at (instr.Key ∷ []) st stack r type.Long t (some_is type.Long t is)
         (simple at instr.Key st stack (type.Long ∷ stack) r refl refl (reads_nothing st)
-          (record {
-            entry = λ k. elim proper [ inl entry ↦ entry | inr none ↦ absurd (no_field_no_key s.around st.field none.0 keyed) ];
-            merge = λ k. absurd (false≢true k) })
-          (λ lab here. record {
-            keyed = subst (λ (l : Label). has_key s.around l.standing.field ≡ true) (sym here) keyed;
-            plain = plainly lab at st stack (suc r) here })));
+        (record {
+          entry = λ k. elim proper [ inl entry ↦ entry | inr none ↦ absurd (no_field_no_key s.around st.field none.0 keyed) ];
+          merge = λ k. absurd (false≢true k);
+        })
+        (λ lab here. record {
+          keyed = subst (λ (l : Label). has_key s.around l.standing.field ≡ true) (sym here) keyed;
+          plain = plainly lab at st stack (suc r) here;
+        })));
   }
 
   members_kind : (i : Instr) (t : ValueType) → c.members ≡ Some t → is_of_entry i ≡ false → OfKind s i
@@ -444,41 +458,41 @@ module _ (s : Setting) (fit : Fitting s) where
   length_coded = record {
     long = λ at. refl;
     made = λ st proper met t is at stack r.
-      (let k = and_is c.members (Some type.Int) t is in
-      giving at (instr.CollectionLength 0 ∷ []) st stack r type.Int t (some_is type.Int t k.2)
+        (let k = and_is c.members (Some type.Int) t is in
+        giving at (instr.CollectionLength 0 ∷ []) st stack r type.Int t (some_is type.Int t k.2)
         (simple at (instr.CollectionLength 0) st stack (type.Int ∷ stack) r refl (ap (λ o. if_members o (Some (type.Int ∷ stack))) (fit.members k.0 k.1))
-          (reads_members st k.0 k.1) (members_kind (instr.CollectionLength 0) k.0 k.1 refl) (λ lab here. plainly lab at st stack (suc r) here)));
+        (reads_members st k.0 k.1) (members_kind (instr.CollectionLength 0) k.0 k.1 refl) (λ lab here. plainly lab at st stack (suc r) here)));
   }
 
   gathered_coded : (code : Code) (T : Option ValueType) (n : Needs) → Coded s code T n → Coded s (behind code (instr.CollectionItem 0)) (and_then (where_type T type.Int type.Int) c.members) n
   gathered_coded code T n a = record {
     long = long_behind code (instr.CollectionItem 0) a.long;
     made = λ st proper met t is at stack r.
-      (let k = and_is (where_type T type.Int type.Int) c.members t is in
-      let index = (where_is T type.Int type.Int k.0 k.1).0 in
-      let place = at + code.size in
-      on at place (code.from at) (instr.CollectionItem 0) st stack (type.Int ∷ stack) (on_top t stack) r (behind_place code a.long at) (λ q. a.made st proper met type.Int index at stack q)
+        (let k = and_is (where_type T type.Int type.Int) c.members t is in
+        let index = (where_is T type.Int type.Int k.0 k.1).0 in
+        let place = at + code.size in
+        on at place (code.from at) (instr.CollectionItem 0) st stack (type.Int ∷ stack) (on_top t stack) r (behind_place code a.long at) (λ q. a.made st proper met type.Int index at stack q)
         (simple place (instr.CollectionItem 0) st (type.Int ∷ stack) (on_top t stack) r refl (ap (λ o. pushing o (Some stack)) (fit.members t k.2))
-          (reads_members st t k.2) (members_kind (instr.CollectionItem 0) t k.2 refl) (λ lab here. plainly lab place st (type.Int ∷ stack) (suc r) here)));
+        (reads_members st t k.2) (members_kind (instr.CollectionItem 0) t k.2 refl) (λ lab here. plainly lab place st (type.Int ∷ stack) (suc r) here)));
   }
 
   gathered_size_coded : (code : Code) (T : Option ValueType) (n : Needs) → Coded s code T n → Coded s (behind code (instr.CollectionSize 0)) (and_then (where_type T type.Int type.Int) (where_type c.members type.Vector type.Int)) n
   gathered_size_coded code T n a = record {
     long = long_behind code (instr.CollectionSize 0) a.long;
     made = λ st proper met t is at stack r.
-      (let k = and_is (where_type T type.Int type.Int) (where_type c.members type.Vector type.Int) t is in
-      let index = (where_is T type.Int type.Int k.0 k.1).0 in
-      let vector = where_is c.members type.Vector type.Int t k.2 in
-      let place = at + code.size in
-      giving at ((behind code (instr.CollectionSize 0)).from at) st stack r type.Int t vector.1
+        (let k = and_is (where_type T type.Int type.Int) (where_type c.members type.Vector type.Int) t is in
+        let index = (where_is T type.Int type.Int k.0 k.1).0 in
+        let vector = where_is c.members type.Vector type.Int t k.2 in
+        let place = at + code.size in
+        giving at ((behind code (instr.CollectionSize 0)).from at) st stack r type.Int t vector.1
         (on at place (code.from at) (instr.CollectionSize 0) st stack (type.Int ∷ stack) (type.Int ∷ stack) r (behind_place code a.long at) (λ q. a.made st proper met type.Int index at stack q)
-          (simple place (instr.CollectionSize 0) st (type.Int ∷ stack) (type.Int ∷ stack) r refl (ap (λ o. if_type o type.Vector (Some (type.Int ∷ stack))) (fit.members type.Vector vector.0))
-            (reads_members st type.Vector vector.0) (members_kind (instr.CollectionSize 0) type.Vector vector.0 refl) (λ lab here. plainly lab place st (type.Int ∷ stack) (suc r) here))));
+        (simple place (instr.CollectionSize 0) st (type.Int ∷ stack) (type.Int ∷ stack) r refl (ap (λ o. if_type o type.Vector (Some (type.Int ∷ stack))) (fit.members type.Vector vector.0))
+        (reads_members st type.Vector vector.0) (members_kind (instr.CollectionSize 0) type.Vector vector.0 refl) (λ lab here. plainly lab place st (type.Int ∷ stack) (suc r) here))));
   }
 
   gathered_element_coded : (at_code index : Code) (T U : Option ValueType) (m n : Needs) → Coded s at_code T m → Coded s index U n
       → Coded s (behind (followed_by (behind at_code (instr.CollectionCheck 0)) index) (instr.CollectionGet 0))
-        (and_then (where_type T type.Int type.Int) (and_then (where_type c.members type.Vector type.Long) (where_type U type.Int type.Long))) (typing.both m n)
+      (and_then (where_type T type.Int type.Int) (and_then (where_type c.members type.Vector type.Long) (where_type U type.Int type.Long))) (typing.both m n)
   gathered_element_coded at_code index T U m n a b =
       let checked = behind at_code (instr.CollectionCheck 0) in
       let front = followed_by checked index in
@@ -487,26 +501,26 @@ module _ (s : Setting) (fit : Fitting s) where
       record {
         long = long_behind front (instr.CollectionGet 0) long_front;
         made = λ st proper met t is at stack r.
-          (let k = and_is (where_type T type.Int type.Int) (and_then (where_type c.members type.Vector type.Long) (where_type U type.Int type.Long)) t is in
-          let l = and_is (where_type c.members type.Vector type.Long) (where_type U type.Int type.Long) t k.2 in
-          let first = (where_is T type.Int type.Int k.0 k.1).0 in
-          let vector = (where_is c.members type.Vector type.Long l.0 l.1).0 in
-          let second = where_is U type.Int type.Long t l.2 in
-          let place = at + at_code.size in
-          let after = at + checked.size in
-          let end = at + front.size in
-          let one_int = type.Int ∷ stack in
-          let two_ints = type.Int ∷ type.Int ∷ stack in
-          giving at ((behind front (instr.CollectionGet 0)).from at) st stack r type.Long t second.1
+            (let k = and_is (where_type T type.Int type.Int) (and_then (where_type c.members type.Vector type.Long) (where_type U type.Int type.Long)) t is in
+            let l = and_is (where_type c.members type.Vector type.Long) (where_type U type.Int type.Long) t k.2 in
+            let first = (where_is T type.Int type.Int k.0 k.1).0 in
+            let vector = (where_is c.members type.Vector type.Long l.0 l.1).0 in
+            let second = where_is U type.Int type.Long t l.2 in
+            let place = at + at_code.size in
+            let after = at + checked.size in
+            let end = at + front.size in
+            let one_int = type.Int ∷ stack in
+            let two_ints = type.Int ∷ type.Int ∷ stack in
+            giving at ((behind front (instr.CollectionGet 0)).from at) st stack r type.Long t second.1
             (on at end (front.from at) (instr.CollectionGet 0) st stack two_ints (type.Long ∷ stack) r (behind_place front long_front at)
-              (λ q. two at after (checked.from at) (index.from after) st stack one_int two_ints q (behind_place checked long_checked at)
-                (λ p. on at place (at_code.from at) (instr.CollectionCheck 0) st stack one_int one_int p (behind_place at_code a.long at)
-                  (λ o. a.made st proper (met_left s.around st m n met) type.Int first at stack o)
-                  (simple place (instr.CollectionCheck 0) st one_int one_int p refl (ap (λ o. if_members o (Some one_int)) (fit.members type.Vector vector))
-                    (reads_members st type.Vector vector) (members_kind (instr.CollectionCheck 0) type.Vector vector refl) (λ lab here. plainly lab place st one_int (suc p) here)))
-                (b.made st proper (met_right s.around st m n met) type.Int second.0 after one_int q))
-              (simple end (instr.CollectionGet 0) st two_ints (type.Long ∷ stack) r refl (ap (λ o. if_type o type.Vector (Some (type.Long ∷ stack))) (fit.members type.Vector vector))
-                (reads_members st type.Vector vector) (members_kind (instr.CollectionGet 0) type.Vector vector refl) (λ lab here. plainly lab end st two_ints (suc r) here))));
+            (λ q. two at after (checked.from at) (index.from after) st stack one_int two_ints q (behind_place checked long_checked at)
+            (λ p. on at place (at_code.from at) (instr.CollectionCheck 0) st stack one_int one_int p (behind_place at_code a.long at)
+            (λ o. a.made st proper (met_left s.around st m n met) type.Int first at stack o)
+            (simple place (instr.CollectionCheck 0) st one_int one_int p refl (ap (λ o. if_members o (Some one_int)) (fit.members type.Vector vector))
+            (reads_members st type.Vector vector) (members_kind (instr.CollectionCheck 0) type.Vector vector refl) (λ lab here. plainly lab place st one_int (suc p) here)))
+            (b.made st proper (met_right s.around st m n met) type.Int second.0 after one_int q))
+            (simple end (instr.CollectionGet 0) st two_ints (type.Long ∷ stack) r refl (ap (λ o. if_type o type.Vector (Some (type.Long ∷ stack))) (fit.members type.Vector vector))
+            (reads_members st type.Vector vector) (members_kind (instr.CollectionGet 0) type.Vector vector refl) (λ lab here. plainly lab end st two_ints (suc r) here))));
       }
 
   vector_element_coded : (v : ℕ) (code : Code) (T : Option ValueType) (n : Needs) → Coded s code T n
@@ -514,23 +528,23 @@ module _ (s : Setting) (fit : Fitting s) where
   vector_element_coded v code T n a = record {
     long = long_behind code (instr.VectorGet v) a.long;
     made = λ st proper met t is at stack r.
-      (let k = and_is (where_type (variable_type c v) type.Vector type.Long) (where_type T type.Int type.Long) t is in
-      let vector = (where_is (variable_type c v) type.Vector type.Long k.0 k.1).0 in
-      let index = where_is T type.Int type.Long t k.2 in
-      let place = at + code.size in
-      giving at ((behind code (instr.VectorGet v)).from at) st stack r type.Long t index.1
+        (let k = and_is (where_type (variable_type c v) type.Vector type.Long) (where_type T type.Int type.Long) t is in
+        let vector = (where_is (variable_type c v) type.Vector type.Long k.0 k.1).0 in
+        let index = where_is T type.Int type.Long t k.2 in
+        let place = at + code.size in
+        giving at ((behind code (instr.VectorGet v)).from at) st stack r type.Long t index.1
         (on at place (code.from at) (instr.VectorGet v) st stack (type.Int ∷ stack) (type.Long ∷ stack) r (behind_place code a.long at) (λ q. a.made st proper (met_left s.around st n (variable_alone v) met) type.Int index.0 at stack q)
-          (simple place (instr.VectorGet v) st (type.Int ∷ stack) (type.Long ∷ stack) r refl (ap (λ o. if_type o type.Vector (Some (type.Long ∷ stack))) (fit.variables v type.Vector vector))
-            (reads_one st v (one_known s.around st v (variable_alone v) (met_right s.around st n (variable_alone v) met) refl)) (making.plain s (instr.VectorGet v) refl refl) (λ lab here. plainly lab place st (type.Int ∷ stack) (suc r) here))));
+        (simple place (instr.VectorGet v) st (type.Int ∷ stack) (type.Long ∷ stack) r refl (ap (λ o. if_type o type.Vector (Some (type.Long ∷ stack))) (fit.variables v type.Vector vector))
+        (reads_one st v (one_known s.around st v (variable_alone v) (met_right s.around st n (variable_alone v) met) refl)) (making.plain s (instr.VectorGet v) refl refl) (λ lab here. plainly lab place st (type.Int ∷ stack) (suc r) here))));
   }
 
   chosen_coded : (test a b : Code) (T U V : Option ValueType) (m n o : Needs) → Coded s test T m → Coded s a U n → Coded s b V o → Coded s (followed_by test (either a b)) (chosen_type T U V) (typing.both m (typing.both n o))
   chosen_coded test a b T U V m n o h k l = record {
     long = long_both test (either a b) h.long (either_long a b k.long l.long);
     made = λ st proper met t is at stack r.
-      (let w = chosen_is T U V t is in
-      let rest = met_right s.around st m (typing.both n o) met in
-      condition test a b T m h w.0 k.long l.long st stack (on_top t stack) proper (met_left s.around st m (typing.both n o) met)
+        (let w = chosen_is T U V t is in
+        let rest = met_right s.around st m (typing.both n o) met in
+        condition test a b T m h w.0 k.long l.long st stack (on_top t stack) proper (met_left s.around st m (typing.both n o) met)
         (λ p q. k.made st proper (met_left s.around st n o rest) t w.1 p stack q) (λ p q. l.made st proper (met_right s.around st n o rest) t w.2 p stack q) at r);
   }
 
@@ -552,8 +566,8 @@ module _ (s : Setting) (fit : Fitting s) where
   layer (e.Cast to a) = record {
     type = ap (cast_type to) a.1.type;
     coded = operand (lowered c a.0).code (type_of c a.0) (cast_type to (type_of c a.0)) (needs a.0) (instr.Cast to) a.1.coded (λ at. refl)
-      (λ t is. (let k = cast_is to (type_of c a.0) t is in (k.0, k.1, λ stack. casts s.graph s.of to k.0 t stack k.2)))
-      (λ st met v h. absurd (in_none v h)) (λ t is. making.plain s (instr.Cast to) refl refl) (λ lab at p. p);
+        (λ t is. (let k = cast_is to (type_of c a.0) t is in (k.0, k.1, λ stack. casts s.graph s.of to k.0 t stack k.2)))
+        (λ st met v h. absurd (in_none v h)) (λ t is. making.plain s (instr.Cast to) refl refl) (λ lab at p. p);
   }
   layer (e.Conditional test a b) = record {
     type = ap (λ o. chosen_type o (lowered c a.0).type (lowered c b.0).type) test.1.type ∙ ap (λ o. chosen_type (type_of c test.0) o (lowered c b.0).type) a.1.type ∙ ap (λ o. chosen_type (type_of c test.0) (type_of c a.0) o) b.1.type;
@@ -562,14 +576,14 @@ module _ (s : Setting) (fit : Fitting s) where
   layer (e.NewVector n) = record {
     type = ap (λ o. where_type o type.Int type.Vector) n.1.type;
     coded = operand (lowered c n.0).code (type_of c n.0) (where_type (type_of c n.0) type.Int type.Vector) (needs n.0) instr.NewVector n.1.coded (λ at. refl)
-      (λ t is. (let k = where_is (type_of c n.0) type.Int type.Vector t is in (type.Int, k.0, λ stack. ap (λ w. Some (on_top w stack)) k.1)))
-      (λ st met v h. absurd (in_none v h)) (λ t is. making.plain s instr.NewVector refl refl) (λ lab at p. p);
+        (λ t is. (let k = where_is (type_of c n.0) type.Int type.Vector t is in (type.Int, k.0, λ stack. ap (λ w. Some (on_top w stack)) k.1)))
+        (λ st met v h. absurd (in_none v h)) (λ t is. making.plain s instr.NewVector refl refl) (λ lab at p. p);
   }
   layer (e.VectorSize v) = record {
     type = refl;
     coded = variable_code (instr.VectorSize v) v (where_type (variable_type c v) type.Vector type.Int) (λ at. refl)
-      (λ t is stack. (let k = where_is (variable_type c v) type.Vector type.Int t is in ap (λ o. if_type o type.Vector (Some (type.Int ∷ stack))) (fit.variables v type.Vector k.0) ∙ ap (λ w. Some (on_top w stack)) k.1))
-      refl (making.plain s (instr.VectorSize v) refl refl) (λ lab at p. p);
+        (λ t is stack. (let k = where_is (variable_type c v) type.Vector type.Int t is in ap (λ o. if_type o type.Vector (Some (type.Int ∷ stack))) (fit.variables v type.Vector k.0) ∙ ap (λ w. Some (on_top w stack)) k.1))
+        refl (making.plain s (instr.VectorSize v) refl refl) (λ lab at p. p);
   }
   layer (e.VectorElement v at) = record {
     type = ap (λ o. and_then (where_type (variable_type c v) type.Vector type.Long) (where_type o type.Int type.Long)) at.1.type;
@@ -586,7 +600,7 @@ module _ (s : Setting) (fit : Fitting s) where
   }
   layer (e.GatheredElement at index) = record {
     type = ap (λ o. and_then (where_type o type.Int type.Int) (and_then (where_type c.members type.Vector type.Long) (where_type (lowered c index.0).type type.Int type.Long))) at.1.type
-      ∙ ap (λ o. and_then (where_type (type_of c at.0) type.Int type.Int) (and_then (where_type c.members type.Vector type.Long) (where_type o type.Int type.Long))) index.1.type;
+        ∙ ap (λ o. and_then (where_type (type_of c at.0) type.Int type.Int) (and_then (where_type c.members type.Vector type.Long) (where_type o type.Int type.Long))) index.1.type;
     coded = gathered_element_coded (lowered c at.0).code (lowered c index.0).code (type_of c at.0) (type_of c index.0) (needs at.0) (needs index.0) at.1.coded index.1.coded;
   }
   layer (e.Call m args) = record {

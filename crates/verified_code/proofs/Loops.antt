@@ -56,33 +56,33 @@ module _ (s : Setting) (w : Whole s) where
         long = omega (arith, long_t, long_u, long_b, many_u, many_b, many_t, many_labels_u, many_labels_b, many_labels_t);
         begins = joined t.labels (turn_label ∷ labels_b) (label st [] t.rank) turn_label (label after [] r) t.begins (same_eases st [] r r (omega arith));
         good = λ lab last last_is agrees eases out.
-          (let last_end : last ≡ end = omega (arith, last_is, many_u, many_b, many_t, turn_is, body_is, update_is, jump_is, end_of) in
-          let own_t = agrees_left lab at t.labels (turn_label ∷ labels_b) agrees in
-          let rest = agrees_right lab at turn_at t.labels (turn_label ∷ labels_b) (omega (arith, turn_is, long_t)) agrees in
-          let at_body : Agrees lab body_at labels_b = subst (λ (n : ℕ). Agrees lab n labels_b) (sym body_is) rest.1 in
-          let own_b = agrees_left lab body_at b.labels labels_u at_body in
-          let at_update = agrees_right lab body_at update_at b.labels labels_u (omega (arith, update_is, long_b)) at_body in
-          let own_u = agrees_left lab update_at u.labels (jump_label ∷ []) at_update in
-          let at_jump = agrees_right lab update_at jump_at u.labels (jump_label ∷ []) (omega (arith, jump_is, long_u)) at_update in
-          let leaves : Eases (label st [] r) (lab end) = eases_on (covered st after [] r r (omega arith) covers) (subst (λ (n : ℕ). Eases (label after [] r) (lab n)) last_end eases) in
-          let to_turn : Eases turn_label (lab turn_at) = subst (λ (l : Label). Eases turn_label l) (sym rest.0) (same_eases st [] r r (omega arith)) in
-          let to_start = begins_with lab at turn_at t.labels st [] t.rank turn_label t.begins (omega (arith, turn_is, long_t)) own_t to_turn in
-          let to_jump : Eases jump_label (lab jump_at) = subst (λ (l : Label). Eases jump_label l) (sym at_jump.0) (same_eases st [] (suc t.rank) (suc t.rank) (omega arith)) in
-          let to_update = begins_with lab update_at jump_at u.labels st [] u.rank jump_label u.begins (omega (arith, jump_is, long_u)) own_u to_jump in
-          let to_body = begins_with lab body_at update_at b.labels st [] b.rank (label st [] u.rank) b.begins (omega (arith, update_is, long_b)) own_b to_update in
-          let leaves_body : Eases (label st [] u.rank) (lab end) = eases_on (same_eases st [] r u.rank (omega (arith, above_t, above_u))) leaves in
-          let goes_again : Eases (label st [] u.rank) (lab again) = elim again_is [
-            | inl first ↦ subst (λ (n : ℕ). Eases (label st [] u.rank) (lab n)) (sym first) (eases_on (same_eases st [] t.rank u.rank (omega (arith, above_u))) to_start)
-            | inr second ↦ subst (λ (n : ℕ). Eases (label st [] u.rank) (lab n)) (sym second) to_update
-          ] in
-          let good_t = t.good lab turn_at turn_is own_t to_turn leaves in
-          let good_b = b.good lab update_at update_is own_b to_update (leaves_body, goes_again) in
-          let good_u = u.good lab jump_at jump_is own_u to_jump tt in
-          let turn = turn_right s lab turn_at st r b.rank rest.0 (subst (λ (n : ℕ). Eases (label st [] b.rank) (lab n)) body_is to_body) in
-          let back = jump s lab jump_at at st [] t.rank at_jump.0 to_start (subst (λ (n : ℕ). (lab n).behind ≡ Anything) end_of leaves.behind) in
-          let from_update = good_both s lab update_at jump_at U (instr.Jump at ∷ []) jump_is good_u (back, tt) in
-          let from_body = good_both s lab body_at update_at B code_u update_is good_b from_update in
-          good_both s lab at turn_at T (instr.Turn ∷ code_b) turn_is good_t (turn, subst (λ (n : ℕ). Good s lab n code_b) body_is from_body));
+            (let last_end : last ≡ end = omega (arith, last_is, many_u, many_b, many_t, turn_is, body_is, update_is, jump_is, end_of) in
+            let own_t = agrees_left lab at t.labels (turn_label ∷ labels_b) agrees in
+            let rest = agrees_right lab at turn_at t.labels (turn_label ∷ labels_b) (omega (arith, turn_is, long_t)) agrees in
+            let at_body : Agrees lab body_at labels_b = subst (λ (n : ℕ). Agrees lab n labels_b) (sym body_is) rest.1 in
+            let own_b = agrees_left lab body_at b.labels labels_u at_body in
+            let at_update = agrees_right lab body_at update_at b.labels labels_u (omega (arith, update_is, long_b)) at_body in
+            let own_u = agrees_left lab update_at u.labels (jump_label ∷ []) at_update in
+            let at_jump = agrees_right lab update_at jump_at u.labels (jump_label ∷ []) (omega (arith, jump_is, long_u)) at_update in
+            let leaves : Eases (label st [] r) (lab end) = eases_on (covered st after [] r r (omega arith) covers) (subst (λ (n : ℕ). Eases (label after [] r) (lab n)) last_end eases) in
+            let to_turn : Eases turn_label (lab turn_at) = subst (λ (l : Label). Eases turn_label l) (sym rest.0) (same_eases st [] r r (omega arith)) in
+            let to_start = begins_with lab at turn_at t.labels st [] t.rank turn_label t.begins (omega (arith, turn_is, long_t)) own_t to_turn in
+            let to_jump : Eases jump_label (lab jump_at) = subst (λ (l : Label). Eases jump_label l) (sym at_jump.0) (same_eases st [] (suc t.rank) (suc t.rank) (omega arith)) in
+            let to_update = begins_with lab update_at jump_at u.labels st [] u.rank jump_label u.begins (omega (arith, jump_is, long_u)) own_u to_jump in
+            let to_body = begins_with lab body_at update_at b.labels st [] b.rank (label st [] u.rank) b.begins (omega (arith, update_is, long_b)) own_b to_update in
+            let leaves_body : Eases (label st [] u.rank) (lab end) = eases_on (same_eases st [] r u.rank (omega (arith, above_t, above_u))) leaves in
+            let goes_again : Eases (label st [] u.rank) (lab again) = elim again_is [
+              | inl first ↦ subst (λ (n : ℕ). Eases (label st [] u.rank) (lab n)) (sym first) (eases_on (same_eases st [] t.rank u.rank (omega (arith, above_u))) to_start)
+              | inr second ↦ subst (λ (n : ℕ). Eases (label st [] u.rank) (lab n)) (sym second) to_update
+            ] in
+            let good_t = t.good lab turn_at turn_is own_t to_turn leaves in
+            let good_b = b.good lab update_at update_is own_b to_update (leaves_body, goes_again) in
+            let good_u = u.good lab jump_at jump_is own_u to_jump tt in
+            let turn = turn_right s lab turn_at st r b.rank rest.0 (subst (λ (n : ℕ). Eases (label st [] b.rank) (lab n)) body_is to_body) in
+            let back = jump s lab jump_at at st [] t.rank at_jump.0 to_start (subst (λ (n : ℕ). (lab n).behind ≡ Anything) end_of leaves.behind) in
+            let from_update = good_both s lab update_at jump_at U (instr.Jump at ∷ []) jump_is good_u (back, tt) in
+            let from_body = good_both s lab body_at update_at B code_u update_is good_b from_update in
+            good_both s lab at turn_at T (instr.Turn ∷ code_b) turn_is good_t (turn, subst (λ (n : ℕ). Good s lab n code_b) body_is from_body));
       }
 
   -- ---- the test
@@ -95,8 +95,8 @@ module _ (s : Setting) (w : Whole s) where
     long = refl;
     begins = same_eases st (type.Boolean ∷ []) (suc r) (suc r) (omega arith);
     good = λ lab last last_is agrees eases out.
-      (let here : last ≡ suc at = omega (arith, last_is) in
-      (test s lab at end st [] r agrees.0 (subst (λ (n : ℕ). Eases (label st [] r) (lab n)) here eases) out, tt));
+        (let here : last ≡ suc at = omega (arith, last_is) in
+        (test s lab at end st [] r agrees.0 (subst (λ (n : ℕ). Eases (label st [] r) (lab n)) here eases) out, tt));
   }
 
   tested_made : (x : Option Expression) (st : Standing) → Proper s st → is_condition s.around st x ≡ true → (p : Place) (to : Exits) (r : ℕ) → Made s (Leaves st r to.break_to) p.at ((tested c x).from p to) st [] (label st [] r)
@@ -105,7 +105,7 @@ module _ (s : Setting) (w : Whole s) where
       let place = p.at + (code_of c x).size in
       let last = leave place to.break_to st r in
       both s (Leaves st r to.break_to) p.at place ((code_of c x).from p.at) (instr.IfFalse to.break_to ∷ []) st st [] (type.Boolean ∷ []) (label st [] r) (behind_place s w.fit (code_of c x) (value_long s w x) p.at) last
-        (anywhere s w (Leaves st r to.break_to) p.at ((code_of c x).from p.at) st [] (label st (type.Boolean ∷ []) last.rank) (value_made s w x type.Boolean st proper (takes_is s.around st x type.Boolean e) p.at [] last.rank))
+      (anywhere s w (Leaves st r to.break_to) p.at ((code_of c x).from p.at) st [] (label st (type.Boolean ∷ []) last.rank) (value_made s w x type.Boolean st proper (takes_is s.around st x type.Boolean e) p.at [] last.rank))
 
   tested_long : (x : Option Expression) (p : Place) (to : Exits) → length ((tested c x).from p to) ≡ (tested c x).size
   tested_long None p to = refl
@@ -176,17 +176,17 @@ module _ (s : Setting) (w : Whole s) where
         let rest : Carries s (body.carried ++ ((in_order update).carried ++ [])) body_at.variable = subst (λ (n : ℕ). Carries s (body.carried ++ ((in_order update).carried ++ [])) n) v (carried x p.variable carries) in
         let t = tested_made x start proper h.tested p exits r in
         let u_made = making.eased s Anywhere update_at.at ((in_order update).from update_at exits) start [] (label h.update_end [] (suc t.rank)) (label start [] (suc t.rank))
-          (u.made None start h.update_end proper h.is_update update_at exits 0 (suc t.rank) (omega arith) (carries_left s (in_order update).carried [] update_at.variable (carries_right s body.carried ((in_order update).carried ++ []) body_at.variable rest)))
-          (covered h.update_end start [] (suc t.rank) (suc t.rank) (omega arith) h.update_covers) in
+        (u.made None start h.update_end proper h.is_update update_at exits 0 (suc t.rank) (omega arith) (carries_left s (in_order update).carried [] update_at.variable (carries_right s body.carried ((in_order update).carried ++ []) body_at.variable rest)))
+        (covered h.update_end start [] (suc t.rank) (suc t.rank) (omega arith) h.update_covers) in
         let b_made = making.eased s (Goes start u_made.rank exits.break_to exits.continue_to) body_at.at (body.from body_at exits) start [] (label h.body_end [] u_made.rank) (label start [] u_made.rank)
-          (b.made (Some start) start h.body_end proper h.is_body body_at exits u_made.rank u_made.rank (omega arith) (carries_left s body.carried ((in_order update).carried ++ []) body_at.variable rest))
-          (covered h.body_end start [] u_made.rank u_made.rank (omega arith) h.body_covers) in
+        (b.made (Some start) start h.body_end proper h.is_body body_at exits u_made.rank u_made.rank (omega arith) (carries_left s body.carried ((in_order update).carried ++ []) body_at.variable rest))
+        (covered h.body_end start [] u_made.rank u_made.rank (omega arith) h.body_covers) in
         let end_of : exits.break_to ≡ suc jump_at = omega arith in
         let behind_body : p.at + (tested c x).size + 1 + body.size ≡ update_at.at = omega arith in
         subst (λ (z : Standing). Made s Out p.at ((passes c x update body).from p to) start [] (label z [] r)) h.after_is
         (loop_made Out p.at turn_at.at body_at.at update_at.at jump_at exits.break_to exits.continue_to ((tested c x).from p exits) (body.from body_at exits) ((in_order update).from update_at exits) start (after_compound st start) r
-          (omega (arith, e)) (omega arith) (omega (arith, f)) (omega (arith, g)) end_of (either_place exits.continue_to p.at (p.at + (tested c x).size + 1 + body.size) update_at.at behind_body (again_is p.at (p.at + (tested c x).size + 1 + body.size) update))
-          (compound_covers s w st start grows) t u_made b_made)
+        (omega (arith, e)) (omega arith) (omega (arith, f)) (omega (arith, g)) end_of (either_place exits.continue_to p.at (p.at + (tested c x).size + 1 + body.size) update_at.at behind_body (again_is p.at (p.at + (tested c x).size + 1 + body.size) update))
+        (compound_covers s w st start grows) t u_made b_made)
       where
         variables : (x : Option Expression) (p : Place) → p.variable ≡ (behind_piece (behind_piece p (tested c x)) turn_piece).variable
         variables None p = omega arith
@@ -203,20 +203,20 @@ module _ (s : Setting) (w : Whole s) where
         record {
           long = λ p to. (let e = a.long p to in let f = passes_long (behind_piece p first) to in let many = length-append (first.from p to) (second.from (behind_piece p first) to) in omega (arith, e, f, many));
           proper = λ exits st after proper e.
-            (let m = next_of_is (passing s.around st x update_checks body_check) (checking.in_order start_checks None st) after e in
-            let h = passed_is st x update_checks body_check m.0 after m.2 in
-            same_standing s w after (after_compound st m.0) h.after_is (a.proper None st m.0 proper m.1));
+              (let m = next_of_is (passing s.around st x update_checks body_check) (checking.in_order start_checks None st) after e in
+              let h = passed_is st x update_checks body_check m.0 after m.2 in
+              same_standing s w after (after_compound st m.0) h.after_is (a.proper None st m.0 proper m.1));
           grows = λ exits st after e v known.
-            (let m = next_of_is (passing s.around st x update_checks body_check) (checking.in_order start_checks None st) after e in
-            let h = passed_is st x update_checks body_check m.0 after m.2 in
-            same_known s w after (after_compound st m.0) h.after_is v known);
+              (let m = next_of_is (passing s.around st x update_checks body_check) (checking.in_order start_checks None st) after e in
+              let h = passed_is st x update_checks body_check m.0 after m.2 in
+              same_known s w after (after_compound st m.0) h.after_is v known);
           made = λ exits st after proper e p to least r less carries.
-            (let m = next_of_is (passing s.around st x update_checks body_check) (checking.in_order start_checks None st) after e in
-            let h = passed_is st x update_checks body_check m.0 after m.2 in
-            let Out = Leads exits to least in
-            let behind = behind_piece p first in
-            let long = a.long p to in
-            let rest = passes_made Out st m.0 after (a.proper None st m.0 proper m.1) h (a.grows None st m.0 m.1) behind to r (carries_right s first.carried second.carried p.variable carries) in
-            both s Out p.at behind.at (first.from p to) (second.from behind to) st m.0 [] [] (label after [] r) (omega (arith, long)) rest
+              (let m = next_of_is (passing s.around st x update_checks body_check) (checking.in_order start_checks None st) after e in
+              let h = passed_is st x update_checks body_check m.0 after m.2 in
+              let Out = Leads exits to least in
+              let behind = behind_piece p first in
+              let long = a.long p to in
+              let rest = passes_made Out st m.0 after (a.proper None st m.0 proper m.1) h (a.grows None st m.0 m.1) behind to r (carries_right s first.carried second.carried p.variable carries) in
+              both s Out p.at behind.at (first.from p to) (second.from behind to) st m.0 [] [] (label after [] r) (omega (arith, long)) rest
               (anywhere s w Out p.at (first.from p to) st [] (label m.0 [] rest.rank) (a.made None st m.0 proper m.1 p to 0 rest.rank (omega arith) (carries_left s first.carried second.carried p.variable carries))));
         }

@@ -78,11 +78,13 @@ one s Out at i st stack e straight f own = record {
   long = refl;
   begins = same_eases st stack (suc e.rank) (suc e.rank) (omega arith);
   good = λ lab end end_is agrees eases out.
-    (let here : end ≡ suc at = omega (arith, end_is) in
-    let behind : Eases e (lab (suc at)) = subst (λ (n : ℕ). Eases e (lab n)) here eases in
-    (right_by s lab at i (label st stack (suc e.rank)) e agrees.0 f
-      (λ next h. subst (λ (n : ℕ). Eases e (lab n)) (sym (only_one next (suc at) (subst (λ (ns : List ℕ). IsIn next ns) straight h))) behind)
-      (own lab agrees.0) behind.behind, tt));
+      (let here : end ≡ suc at = omega (arith, end_is) in
+      let behind : Eases e (lab (suc at)) = subst (λ (n : ℕ). Eases e (lab n)) here eases in (
+        right_by s lab at i (label st stack (suc e.rank)) e agrees.0 f
+            (λ next h. subst (λ (n : ℕ). Eases e (lab n)) (sym (only_one next (suc at) (subst (λ (ns : List ℕ). IsIn next ns) straight h))) behind)
+            (own lab agrees.0) behind.behind,
+        tt,
+      ));
 }
 
 -- an instruction behind which nothing goes on
@@ -95,12 +97,14 @@ last s Out at i st stack after e ends takes may_read kind own = record {
   long = refl;
   begins = same_eases st stack (suc e.rank) (suc e.rank) (omega arith);
   good = λ lab end end_is agrees eases out.
-    (let here : end ≡ suc at = omega (arith, end_is) in
-    let behind : Eases e (lab (suc at)) = subst (λ (n : ℕ). Eases e (lab n)) here eases in
-    (right_by s lab at i (label st stack (suc e.rank)) (label st after e.rank) agrees.0
-      (record { falls = omega arith; knows = λ v h. inl h; may_read = may_read; stays = λ next h. record { field = inr refl; gathered = inr refl; visit = refl }; takes = takes; kind = kind })
-      (λ next h. absurd (in_none next (subst (λ (ns : List ℕ). IsIn next ns) ends h)))
-      (own lab agrees.0) behind.behind, tt));
+      (let here : end ≡ suc at = omega (arith, end_is) in
+      let behind : Eases e (lab (suc at)) = subst (λ (n : ℕ). Eases e (lab n)) here eases in (
+        right_by s lab at i (label st stack (suc e.rank)) (label st after e.rank) agrees.0
+            (record { falls = omega arith; knows = λ v h. inl h; may_read = may_read; stays = λ next h. record { field = inr refl; gathered = inr refl; visit = refl }; takes = takes; kind = kind })
+            (λ next h. absurd (in_none next (subst (λ (ns : List ℕ). IsIn next ns) ends h)))
+            (own lab agrees.0) behind.behind,
+        tt,
+      ));
 }
 
 -- ---- several
@@ -158,12 +162,12 @@ both s Out at k xs ys st between stack middle e place b a =
       long = omega (arith, many, many_labels, long_a, long_b);
       begins = joined a.labels b.labels (label st stack a.rank) (label between middle b.rank) e a.begins b.begins;
       good = λ lab end end_is agrees eases out.
-        (let end_of : end ≡ k + length ys = omega (arith, end_is, place, many) in
-        let end_of_labels : end ≡ k + length b.labels = omega (arith, end_of, long_b) in
-        let place_of_labels : k ≡ at + length a.labels = omega (arith, place, long_a) in
-        let right = agrees_right lab at k a.labels b.labels place_of_labels agrees in
-        let enters = begins_with lab k end b.labels between middle b.rank e b.begins end_of_labels right eases in
-        good_both s lab at k xs ys place (a.good lab k place (agrees_left lab at a.labels b.labels agrees) enters out) (b.good lab end end_of right eases out));
+          (let end_of : end ≡ k + length ys = omega (arith, end_is, place, many) in
+          let end_of_labels : end ≡ k + length b.labels = omega (arith, end_of, long_b) in
+          let place_of_labels : k ≡ at + length a.labels = omega (arith, place, long_a) in
+          let right = agrees_right lab at k a.labels b.labels place_of_labels agrees in
+          let enters = begins_with lab k end b.labels between middle b.rank e b.begins end_of_labels right eases in
+          good_both s lab at k xs ys place (a.good lab k place (agrees_left lab at a.labels b.labels agrees) enters out) (b.good lab end end_of right eases out));
     }
 
 -- ---- one of two
@@ -211,23 +215,23 @@ if_else s Out at k other end xs ys st after stack left r k_is other_is end_of a 
       long = omega (arith, many, many_labels, long_a, long_b);
       begins = same_eases st (type.Boolean ∷ stack) (suc (a.rank + b.rank)) (suc (a.rank + b.rank)) (omega arith);
       good = λ lab last last_is agrees eases out.
-        (let from : ℕ = k + length xs in
-        let rest : Agrees lab k (a.labels ++ (jumping ∷ b.labels)) = subst (λ (n : ℕ). Agrees lab n (a.labels ++ (jumping ∷ b.labels))) (sym k_is) agrees.1 in
-        let behind : Agrees lab from (jumping ∷ b.labels) = agrees_right lab k from a.labels (jumping ∷ b.labels) (omega (arith, long_a)) rest in
-        let last_of : last ≡ other + length ys = omega (arith, last_is, many, k_is, other_is) in
-        let same : end ≡ last = omega (arith, last_of, end_of) in
-        let second : Agrees lab other b.labels = subst (λ (n : ℕ). Agrees lab n b.labels) (sym other_is) behind.1 in
-        let enters_b = begins_with lab other last b.labels st stack b.rank (label after left r) b.begins (omega (arith, last_of, long_b)) second eases in
-        let at_jump : Eases jumping (lab from) = subst (λ (x : Label). Eases jumping x) (sym behind.0) (same_eases after left (suc r) (suc r) (omega arith)) in
-        let enters_a = begins_with lab k from a.labels st stack a.rank jumping a.begins (omega (arith, long_a)) (agrees_left lab k a.labels (jumping ∷ b.labels) rest) at_jump in
-        let on : Eases (label st stack (a.rank + b.rank)) (lab (suc at)) = subst (λ (n : ℕ). Eases (label st stack (a.rank + b.rank)) (lab n)) k_is (eases_on (same_eases st stack a.rank (a.rank + b.rank) (omega arith)) enters_a) in
-        let over : Eases (label st stack (a.rank + b.rank)) (lab other) = eases_on (same_eases st stack b.rank (a.rank + b.rank) (omega arith)) enters_b in
-        let goes : Eases (label after left r) (lab end) = subst (λ (n : ℕ). Eases (label after left r) (lab n)) (sym same) eases in
-        let code_a : Good s lab k xs = a.good lab from refl (agrees_left lab k a.labels (jumping ∷ b.labels) rest) at_jump out in
-        let code_b : Good s lab other ys = b.good lab last last_of second eases out in
-        let code_jump : Right s lab from (instr.Jump end) = jump s lab from end after left r behind.0 goes (subst (λ (n : ℕ). (lab n).behind ≡ Anything) other_is enters_b.behind) in
-        let code_rest : Good s lab k (xs ++ (instr.Jump end ∷ ys)) = good_both s lab k from xs (instr.Jump end ∷ ys) refl code_a (code_jump, subst (λ (n : ℕ). Good s lab n ys) other_is code_b) in
-        (test s lab at other st stack (a.rank + b.rank) agrees.0 on over, subst (λ (n : ℕ). Good s lab n (xs ++ (instr.Jump end ∷ ys))) k_is code_rest));
+          (let from : ℕ = k + length xs in
+          let rest : Agrees lab k (a.labels ++ (jumping ∷ b.labels)) = subst (λ (n : ℕ). Agrees lab n (a.labels ++ (jumping ∷ b.labels))) (sym k_is) agrees.1 in
+          let behind : Agrees lab from (jumping ∷ b.labels) = agrees_right lab k from a.labels (jumping ∷ b.labels) (omega (arith, long_a)) rest in
+          let last_of : last ≡ other + length ys = omega (arith, last_is, many, k_is, other_is) in
+          let same : end ≡ last = omega (arith, last_of, end_of) in
+          let second : Agrees lab other b.labels = subst (λ (n : ℕ). Agrees lab n b.labels) (sym other_is) behind.1 in
+          let enters_b = begins_with lab other last b.labels st stack b.rank (label after left r) b.begins (omega (arith, last_of, long_b)) second eases in
+          let at_jump : Eases jumping (lab from) = subst (λ (x : Label). Eases jumping x) (sym behind.0) (same_eases after left (suc r) (suc r) (omega arith)) in
+          let enters_a = begins_with lab k from a.labels st stack a.rank jumping a.begins (omega (arith, long_a)) (agrees_left lab k a.labels (jumping ∷ b.labels) rest) at_jump in
+          let on : Eases (label st stack (a.rank + b.rank)) (lab (suc at)) = subst (λ (n : ℕ). Eases (label st stack (a.rank + b.rank)) (lab n)) k_is (eases_on (same_eases st stack a.rank (a.rank + b.rank) (omega arith)) enters_a) in
+          let over : Eases (label st stack (a.rank + b.rank)) (lab other) = eases_on (same_eases st stack b.rank (a.rank + b.rank) (omega arith)) enters_b in
+          let goes : Eases (label after left r) (lab end) = subst (λ (n : ℕ). Eases (label after left r) (lab n)) (sym same) eases in
+          let code_a : Good s lab k xs = a.good lab from refl (agrees_left lab k a.labels (jumping ∷ b.labels) rest) at_jump out in
+          let code_b : Good s lab other ys = b.good lab last last_of second eases out in
+          let code_jump : Right s lab from (instr.Jump end) = jump s lab from end after left r behind.0 goes (subst (λ (n : ℕ). (lab n).behind ≡ Anything) other_is enters_b.behind) in
+          let code_rest : Good s lab k (xs ++ (instr.Jump end ∷ ys)) = good_both s lab k from xs (instr.Jump end ∷ ys) refl code_a (code_jump, subst (λ (n : ℕ). Good s lab n ys) other_is code_b) in
+          (test s lab at other st stack (a.rank + b.rank) agrees.0 on over, subst (λ (n : ℕ). Good s lab n (xs ++ (instr.Jump end ∷ ys))) k_is code_rest));
     }
 
 -- ---- behind a turn
@@ -248,24 +252,29 @@ turned s Out at i st stack e straight f own =
       long = refl;
       begins = same_eases st stack (suc e.rank) (suc e.rank) (omega arith);
       good = λ lab end end_is agrees eases out.
-        (let here : end ≡ suc (suc at) = omega (arith, end_is) in
-        let behind : Eases e (lab (suc (suc at))) = subst (λ (n : ℕ). Eases e (lab n)) here eases in
-        let to : (next : ℕ) → IsIn next (suc at ∷ []) → second ≡ lab next = (λ next h. sym (subst (λ (n : ℕ). lab n ≡ second) (sym (only_one next (suc at) h)) agrees.1.0)) in
-        let from : first ≡ lab at = sym agrees.0 in
-        let turn : Right s lab at instr.Turn = record {
-          after = stack;
-          takes = subst (λ (x : Label). Takes s instr.Turn x.stack stack) from refl;
-          stacks = λ next h. subst (λ (x : Label). x.stack ≡ stack) (to next h) refl;
-          ranks = λ next h no_turn. absurd (no_turn refl);
-          knows = λ next h v known. inl (subst (λ (x : Label). Knows x.standing v) from (subst (λ (x : Label). Knows x.standing v) (sym (to next h)) known));
-          may_read = λ v h. absurd (in_none v h);
-          jumps = λ next j. absurd j;
-          stays = λ next h. subst (λ (x : Label). Stays x (lab next)) from (subst (λ (x : Label). Stays first x) (to next h) (record { field = inr refl; gathered = inr refl; visit = refl }));
-          own = ap (λ (l : Label). l.visit) agrees.0;
-          suits = subst (λ (x : Label). Suits instr.Turn x.behind) (sym agrees.1.0) refl;
-          kind = plain_kind s instr.Turn refl refl;
-        } in
-        (turn, (right_by s lab (suc at) i second e agrees.1.0 f
-          (λ next h. subst (λ (n : ℕ). Eases e (lab n)) (sym (only_one next (suc (suc at)) (subst (λ (ns : List ℕ). IsIn next ns) straight h))) behind)
-          (own lab agrees.1.0 behind) behind.behind, tt)));
+          (let here : end ≡ suc (suc at) = omega (arith, end_is) in
+          let behind : Eases e (lab (suc (suc at))) = subst (λ (n : ℕ). Eases e (lab n)) here eases in
+          let to : (next : ℕ) → IsIn next (suc at ∷ []) → second ≡ lab next = (λ next h. sym (subst (λ (n : ℕ). lab n ≡ second) (sym (only_one next (suc at) h)) agrees.1.0)) in
+          let from : first ≡ lab at = sym agrees.0 in
+          let turn : Right s lab at instr.Turn = record {
+            after = stack;
+            takes = subst (λ (x : Label). Takes s instr.Turn x.stack stack) from refl;
+            stacks = λ next h. subst (λ (x : Label). x.stack ≡ stack) (to next h) refl;
+            ranks = λ next h no_turn. absurd (no_turn refl);
+            knows = λ next h v known. inl (subst (λ (x : Label). Knows x.standing v) from (subst (λ (x : Label). Knows x.standing v) (sym (to next h)) known));
+            may_read = λ v h. absurd (in_none v h);
+            jumps = λ next j. absurd j;
+            stays = λ next h. subst (λ (x : Label). Stays x (lab next)) from (subst (λ (x : Label). Stays first x) (to next h) (record { field = inr refl; gathered = inr refl; visit = refl }));
+            own = ap (λ (l : Label). l.visit) agrees.0;
+            suits = subst (λ (x : Label). Suits instr.Turn x.behind) (sym agrees.1.0) refl;
+            kind = plain_kind s instr.Turn refl refl;
+          } in (
+            turn,
+            (
+              right_by s lab (suc at) i second e agrees.1.0 f
+                  (λ next h. subst (λ (n : ℕ). Eases e (lab n)) (sym (only_one next (suc (suc at)) (subst (λ (ns : List ℕ). IsIn next ns) straight h))) behind)
+                  (own lab agrees.1.0 behind) behind.behind,
+              tt,
+            ),
+          ));
     }

@@ -263,8 +263,8 @@ module _ (scope : Scope) where
   then_shaped a b ms ns h k = record {
     calls = λ p to. calls_joined ms ns (a.from p to) (b.from (behind_piece p a) to) (h.calls p to) (k.calls (behind_piece p a) to);
     counts = λ p to. (let e : (p.task + a.tasks) + b.tasks ≡ p.task + (a.tasks + b.tasks) = omega arith in
-      subst (λ (m : ℕ). Counts p.task (a.from p to ++ b.from (behind_piece p a) to) m) e
-      (counts_both p.task (p.task + a.tasks) ((p.task + a.tasks) + b.tasks) (a.from p to) (b.from (behind_piece p a) to) (h.counts p to) (k.counts (behind_piece p a) to)));
+        subst (λ (m : ℕ). Counts p.task (a.from p to ++ b.from (behind_piece p a) to) m) e
+        (counts_both p.task (p.task + a.tasks) ((p.task + a.tasks) + b.tasks) (a.from p to) (b.from (behind_piece p a) to) (h.counts p to) (k.counts (behind_piece p a) to)));
   }
 
   more_shaped : (piece : Piece) (ms ns : List ℕ) → ((n : ℕ) → is_in n ms ≡ true → is_in n ns ≡ true) → Shaped piece ms → Shaped piece ns
@@ -335,9 +335,9 @@ module _ (scope : Scope) where
       let second = accessing_shaped (field_name scope a.field) a r in
       record {
         calls = λ p to. calls_both args ((codes_of c a.args).from p.at) (instr.Access (field_name scope a.field) a.method ∷ code.targeted a.target r) (first.calls p to)
-          (calls_more [] args (instr.Access (field_name scope a.field) a.method ∷ code.targeted a.target r) (λ n h. absurd (false≢true h)) (second.calls p to));
+            (calls_more [] args (instr.Access (field_name scope a.field) a.method ∷ code.targeted a.target r) (λ n h. absurd (false≢true h)) (second.calls p to));
         counts = λ p to. (let e : p.task + 0 ≡ p.task = omega arith in
-          counts_both p.task p.task (p.task + 0) ((codes_of c a.args).from p.at) (instr.Access (field_name scope a.field) a.method ∷ code.targeted a.target r)
+            counts_both p.task p.task (p.task + 0) ((codes_of c a.args).from p.at) (instr.Access (field_name scope a.field) a.method ∷ code.targeted a.target r)
             (quiet_counts args p.task ((codes_of c a.args).from p.at) (expressions_quiet c a.args p.at)) (second.counts p to));
       }
 
@@ -360,9 +360,9 @@ module _ (scope : Scope) where
   visit_shaped : (g : Gather) → Shaped (visit scope g) []
   visit_shaped g = record {
     calls = λ p to. calls_both [] (map instr.Load (range_with_len p.variable (length g.args))) (instr.Access (field_name scope g.field) g.method ∷ instr.Part p.task ∷ [])
-      (quiet_calls [] (map instr.Load (range_with_len p.variable (length g.args))) (loads_quiet p.variable (length g.args))) (tt, (tt, tt));
+        (quiet_calls [] (map instr.Load (range_with_len p.variable (length g.args))) (loads_quiet p.variable (length g.args))) (tt, (tt, tt));
     counts = λ p to. counts_both p.task p.task (p.task + 1) (map instr.Load (range_with_len p.variable (length g.args))) (instr.Access (field_name scope g.field) g.method ∷ instr.Part p.task ∷ [])
-      (quiet_counts [] p.task (map instr.Load (range_with_len p.variable (length g.args))) (loads_quiet p.variable (length g.args))) (refl, (let e : suc p.task ≡ p.task + 1 = omega arith in e));
+        (quiet_counts [] p.task (map instr.Load (range_with_len p.variable (length g.args))) (loads_quiet p.variable (length g.args))) (refl, (let e : suc p.task ≡ p.task + 1 = omega arith in e));
   }
 
   gather_shaped : (g : Gather) → Shaped (code.gather scope g) (in_all (map calling g.args))
@@ -393,7 +393,7 @@ module _ (scope : Scope) where
       let tail = more_shaped (in_order (in_order update ∷ of_instructions (instr.Jump again ∷ []) ∷ [])) (ns ++ []) ns (end_in ns) (then_shaped (in_order update) (in_order (of_instructions (instr.Jump again ∷ []) ∷ [])) ns [] u last) in
       then_shaped (tested c x) (in_order (of_instructions (instr.Turn ∷ []) ∷ body ∷ in_order update ∷ of_instructions (instr.Jump again ∷ []) ∷ [])) (calling_maybe x) (ms ++ ns) (tested_shaped x)
       (then_shaped (of_instructions (instr.Turn ∷ [])) (in_order (body ∷ in_order update ∷ of_instructions (instr.Jump again ∷ []) ∷ [])) [] (ms ++ ns) turn_shaped
-        (then_shaped body (in_order (in_order update ∷ of_instructions (instr.Jump again ∷ []) ∷ [])) ms ns b tail))
+      (then_shaped body (in_order (in_order update ∷ of_instructions (instr.Jump again ∷ []) ∷ [])) ms ns b tail))
 
   passes_shaped : (x : Option Expression) (update : List Piece) (body : Piece) (ns ms : List ℕ) → Shaped (in_order update) ns → Shaped body ms → Shaped (passes c x update body) (calling_maybe x ++ (ms ++ ns))
   passes_shaped x update body ns ms u b = record {
@@ -425,7 +425,7 @@ module _ (scope : Scope) where
   statement_layer (s.SetElement v i x) =
       quiet_shaped (calling i ++ calling x) (behind (followed_by (code_of c i) (code_of c x)) (instr.VectorSet v))
       (λ at. quiet_both (calling i ++ calling x) ((followed_by (code_of c i) (code_of c x)).from at) (instr.VectorSet v ∷ [])
-        (quiet_joined (calling i) (calling x) ((code_of c i).from at) ((code_of c x).from (at + (code_of c i).size)) (expression_quiet c i at) (expression_quiet c x (at + (code_of c i).size))) (tt, tt))
+      (quiet_joined (calling i) (calling x) ((code_of c i).from at) ((code_of c x).from (at + (code_of c i).size)) (expression_quiet c i at) (expression_quiet c x (at + (code_of c i).size))) (tt, tt))
   statement_layer (s.Evaluate x) =
       quiet_shaped (calling x) (followed_by (code_of c x) (plain (dropped (type_of c x)))) (λ at. quiet_both (calling x) ((code_of c x).from at) (dropped (type_of c x)) (expression_quiet c x at) (dropped_quiet (calling x) (type_of c x)))
   statement_layer (s.Access a) = access_shaped a
@@ -440,7 +440,7 @@ module _ (scope : Scope) where
   statement_layer (s.If test first (Some second)) =
       then_shaped (of_code (code_of c test)) (then_piece (guarded 1 (piece_of scope first.0)) (jumped_over (piece_of scope second.0))) (calling test) (called_in first.0 ++ called_in second.0) (test_shaped test)
       (then_shaped (guarded 1 (piece_of scope first.0)) (jumped_over (piece_of scope second.0)) (called_in first.0) (called_in second.0)
-        (guarded_shaped 1 (piece_of scope first.0) (called_in first.0) first.1) (jumped_shaped (piece_of scope second.0) (called_in second.0) second.1))
+      (guarded_shaped 1 (piece_of scope first.0) (called_in first.0) first.1) (jumped_shaped (piece_of scope second.0) (called_in second.0) second.1))
   statement_layer (s.Loop start test update body) =
       then_shaped (in_order (map (piece_of scope) (bare_ones start))) (passes c test (map (piece_of scope) (bare_ones update)) (piece_of scope body.0))
       (in_all (map called_in (bare_ones start))) (calling_maybe test ++ (called_in body.0 ++ in_all (map called_in (bare_ones update)))) (ones_in_order start)

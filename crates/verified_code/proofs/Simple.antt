@@ -211,7 +211,8 @@ module _ (s : Setting) (w : Whole s) where
         may_read = λ u h. absurd (in_none u h);
         stays = λ next h. record { field = inr refl; gathered = inr refl; visit = refl };
         takes = ap (λ o. stored_type o (on_top t [])) (w.fit.variables v t is) ∙ one_off t [] (w.fit.values v t is);
-        kind = making.plain s (instr.Store v) refl refl })
+        kind = making.plain s (instr.Store v) refl refl;
+      })
       (λ lab here. visits_not lab at st (on_top t []) (suc r) here)
 
   pop_made : (at : ℕ) (t : ValueType) (st : Standing) (r : ℕ) → Made s Anywhere at (instr.Pop ∷ []) st (t ∷ []) (label st [] r)
@@ -291,11 +292,11 @@ module _ (s : Setting) (w : Whole s) where
     proper = λ exits st after proper e. same_standing after (with_known v st) (assigned_is v (type_of c x) (are_met s.around st (needs x)) st after e).after_is proper;
     grows = λ exits st after e u h. same_known after (with_known v st) (assigned_is v (type_of c x) (are_met s.around st (needs x)) st after e).after_is u (still_known u v st h);
     made = λ exits st after proper e p to least r less carries.
-      (let k = assigned_is v (type_of c x) (are_met s.around st (needs x)) st after e in
-      let typed : TypedBy s.around st x k.t = record { met = is_met s.around st (needs x) k.is_met; typed = k.typed } in
-      let place = p.at + (code_of c x).size in
-      subst (λ (z : Standing). Made s (Leads exits to least) p.at ((behind (code_of c x) (instr.Store v)).from p.at) st [] (label z [] r)) k.after_is
-      (one_more (Leads exits to least) p.at place ((code_of c x).from p.at) (instr.Store v ∷ []) st (with_known v st) [] (on_top k.t []) r (behind_place s w.fit (code_of c x) (value_long x) p.at)
+        (let k = assigned_is v (type_of c x) (are_met s.around st (needs x)) st after e in
+        let typed : TypedBy s.around st x k.t = record { met = is_met s.around st (needs x) k.is_met; typed = k.typed } in
+        let place = p.at + (code_of c x).size in
+        subst (λ (z : Standing). Made s (Leads exits to least) p.at ((behind (code_of c x) (instr.Store v)).from p.at) st [] (label z [] r)) k.after_is
+        (one_more (Leads exits to least) p.at place ((code_of c x).from p.at) (instr.Store v ∷ []) st (with_known v st) [] (on_top k.t []) r (behind_place s w.fit (code_of c x) (value_long x) p.at)
         (λ q. value_made x k.t st proper typed p.at [] q) (store_made place v k.t st r k.variable)));
   }
 
@@ -332,22 +333,24 @@ module _ (s : Setting) (w : Whole s) where
         proper = λ exits st after proper e. same_standing after st (set_is v at x st after e).after_is proper;
         grows = λ exits st after e u h. same_known after st (set_is v at x st after e).after_is u h;
         made = λ exits st after proper e p to least r less carries.
-          (let k = set_is v at x st after e in
-          let place = p.at + (code_of c at).size in
-          let end = p.at + front.size in
-          let both_values = type.Long ∷ type.Int ∷ [] in
-          subst (λ (z : Standing). Made s (Leads exits to least) p.at ((behind front (instr.VectorSet v)).from p.at) st [] (label z [] r)) k.after_is
-          (one_more (Leads exits to least) p.at end (front.from p.at) (instr.VectorSet v ∷ []) st st [] both_values r (behind_place s w.fit front long_front p.at)
+            (let k = set_is v at x st after e in
+            let place = p.at + (code_of c at).size in
+            let end = p.at + front.size in
+            let both_values = type.Long ∷ type.Int ∷ [] in
+            subst (λ (z : Standing). Made s (Leads exits to least) p.at ((behind front (instr.VectorSet v)).from p.at) st [] (label z [] r)) k.after_is
+            (one_more (Leads exits to least) p.at end (front.from p.at) (instr.VectorSet v ∷ []) st st [] both_values r (behind_place s w.fit front long_front p.at)
             (λ q. both s Anywhere p.at place ((code_of c at).from p.at) ((code_of c x).from place) st st [] (type.Int ∷ []) (label st both_values q) (behind_place s w.fit (code_of c at) (value_long at) p.at)
-              (value_made x type.Long st proper k.value place (type.Int ∷ []) q) (value_made at type.Int st proper k.index p.at [] (value_made x type.Long st proper k.value place (type.Int ∷ []) q).rank))
+            (value_made x type.Long st proper k.value place (type.Int ∷ []) q) (value_made at type.Int st proper k.index p.at [] (value_made x type.Long st proper k.value place (type.Int ∷ []) q).rank))
             (one s Anywhere end (instr.VectorSet v) st both_values (label st [] r) refl
-              (record {
-                falls = omega arith; knows = λ u h. inl h;
-                may_read = λ u h. subst (λ (n : ℕ). MayRead s st n) (sym (only_one u v h)) (IsKnown k.known);
-                stays = λ next h. record { field = inr refl; gathered = inr refl; visit = refl };
-                takes = ap (λ o. if_type o type.Vector (Some [])) (w.fit.variables v type.Vector k.vector);
-                kind = making.plain s (instr.VectorSet v) refl refl })
-              (λ lab here. visits_not lab end st both_values (suc r) here))));
+            (record {
+              falls = omega arith;
+              knows = λ u h. inl h;
+              may_read = λ u h. subst (λ (n : ℕ). MayRead s st n) (sym (only_one u v h)) (IsKnown k.known);
+              stays = λ next h. record { field = inr refl; gathered = inr refl; visit = refl };
+              takes = ap (λ o. if_type o type.Vector (Some [])) (w.fit.variables v type.Vector k.vector);
+              kind = making.plain s (instr.VectorSet v) refl refl;
+            })
+            (λ lab here. visits_not lab end st both_values (suc r) here))));
       }
 
   pub record IsEvaluated (x : Expression) (st after : Standing) : Type 0 where
@@ -373,10 +376,10 @@ module _ (s : Setting) (w : Whole s) where
     proper = λ exits st after proper e. same_standing after st (evaluated_is x st after e).after_is proper;
     grows = λ exits st after e u h. same_known after st (evaluated_is x st after e).after_is u h;
     made = λ exits st after proper e p to least r less carries.
-      (let k = evaluated_is x st after e in
-      let place = p.at + (code_of c x).size in
-      subst (λ (z : Standing). Made s (Leads exits to least) p.at ((code_of c x).from p.at ++ dropped (type_of c x)) st [] (label z [] r)) k.after_is
-      (one_more (Leads exits to least) p.at place ((code_of c x).from p.at) (dropped (type_of c x)) st st [] (on_top k.t []) r (behind_place s w.fit (code_of c x) (value_long x) p.at)
+        (let k = evaluated_is x st after e in
+        let place = p.at + (code_of c x).size in
+        subst (λ (z : Standing). Made s (Leads exits to least) p.at ((code_of c x).from p.at ++ dropped (type_of c x)) st [] (label z [] r)) k.after_is
+        (one_more (Leads exits to least) p.at place ((code_of c x).from p.at) (dropped (type_of c x)) st st [] (on_top k.t []) r (behind_place s w.fit (code_of c x) (value_long x) p.at)
         (λ q. value_made x k.t st proper k.typed p.at [] q)
         (subst (λ (o : Option ValueType). Made s Anywhere place (dropped o) st (on_top k.t []) (label st [] r)) (sym k.typed.typed) (popped_made place k.t st r))));
   }
@@ -405,7 +408,8 @@ module _ (s : Setting) (w : Whole s) where
           let needed = are_met s.around st (needs_of_all a.args) in
           let typed = are_types (types_of c a.args) sig.arguments in
           record {
-            sig = sig; is = refl;
+            sig = sig;
+            is = refl;
             field = number_is st.field (Some a.field) (and_left f (keyed && args) is);
             met = is_met s.around st (needs_of_all a.args) (and_left needed typed rest);
             typed = types_are (types_of c a.args) sig.arguments (and_right needed typed rest);
@@ -435,14 +439,18 @@ module _ (s : Setting) (w : Whole s) where
       let end = targeted_made a.target k.sig.result st after k.after_is (suc place) r in
       let behind = subst (λ (t : ValueType). Made s Anywhere (suc place) (code.targeted a.target t) st (on_top k.sig.result []) (label after [] r)) same end in
       let accessing = one s Anywhere place (instr.Access name a.method) st top (label st (on_top k.sig.result []) behind.rank) refl
-            (record {
-              falls = omega arith; knows = λ u h. inl h; may_read = λ u h. absurd (in_none u h); stays = λ next h. record { field = inr refl; gathered = inr refl; visit = refl };
-              takes = ap (λ o. accessed_type o top) meets.of_graph ∙ ap (λ o. with_result k.sig.result o) (without_pushed k.sig.arguments [] meets.values);
-              kind = record { entry = λ h. entry_of st a.field proper k.field; merge = λ h. absurd (false≢true h) } })
-            (λ lab here. InBlock a.field (visits_not lab place st top (suc behind.rank) here) (ap (λ (l : Label). l.standing.field) here ∙ k.field) refl) in
+      (record {
+        falls = omega arith;
+        knows = λ u h. inl h;
+        may_read = λ u h. absurd (in_none u h);
+        stays = λ next h. record { field = inr refl; gathered = inr refl; visit = refl };
+        takes = ap (λ o. accessed_type o top) meets.of_graph ∙ ap (λ o. with_result k.sig.result o) (without_pushed k.sig.arguments [] meets.values);
+        kind = record { entry = λ h. entry_of st a.field proper k.field; merge = λ h. absurd (false≢true h) };
+      })
+      (λ lab here. InBlock a.field (visits_not lab place st top (suc behind.rank) here) (ap (λ (l : Label). l.standing.field) here ∙ k.field) refl) in
       let rest = both s Anywhere place (suc place) (instr.Access name a.method ∷ []) (code.targeted a.target result) st st top (on_top k.sig.result []) (label after [] r) (omega arith) behind accessing in
       both s Anywhere at place (args.from at) (instr.Access name a.method ∷ code.targeted a.target result) st st [] top (label after [] r) (behind_place s w.fit args (values_long a.args) at) rest
-        (values_made a.args k.sig.arguments st proper k.met k.typed at [] rest.rank)
+      (values_made a.args k.sig.arguments st proper k.met k.typed at [] rest.rank)
 
   pub access_done : (a : Access) → Done (of_code (code.access (scope s) a)) (λ exits st. access s.around a (checking.signature_of s.around a.field a.method) st)
   access_done a = record {
@@ -450,7 +458,7 @@ module _ (s : Setting) (w : Whole s) where
     proper = λ exits st after proper e. (let k = accessed_is a (checking.signature_of s.around a.field a.method) st after e in targeted_proper a.target k.sig.result st after k.after_is proper);
     grows = λ exits st after e u h. (let k = accessed_is a (checking.signature_of s.around a.field a.method) st after e in targeted_grows a.target k.sig.result st after k.after_is u h);
     made = λ exits st after proper e p to least r less carries.
-      anywhere (Leads exits to least) p.at ((code.access (scope s) a).from p.at) st [] (label after [] r) (access_made a st after proper (accessed_is a (checking.signature_of s.around a.field a.method) st after e) p.at r);
+        anywhere (Leads exits to least) p.at ((code.access (scope s) a).from p.at) st [] (label after [] r) (access_made a st after proper (accessed_is a (checking.signature_of s.around a.field a.method) st after e) p.at r);
   }
 
   -- ---- jumps
@@ -467,13 +475,20 @@ module _ (s : Setting) (w : Whole s) where
     long = refl;
     begins = same_eases st [] (suc r) (suc r) (omega arith);
     good = λ lab end end_is agrees eases out.
-      (let here : end ≡ suc at = omega (arith, end_is) in
-      (right_by s lab at (instr.Jump to) (label st [] (suc r)) (label need [] least) agrees.0
-        (record {
-          falls = omega (arith, less); knows = λ v k. inl (h.known v k); may_read = λ v k. absurd (in_none v k);
-          stays = λ next k. record { field = h.field; gathered = h.gathered; visit = refl }; takes = refl; kind = making.plain s (instr.Jump to) refl refl })
-        (λ next k. subst (λ (n : ℕ). Eases (label need [] least) (lab n)) (sym (only_one next to k)) (leads lab out))
-        (visits_not lab at st [] (suc r) agrees.0) (subst (λ (n : ℕ). (lab n).behind ≡ Anything) here eases.behind), tt));
+        (let here : end ≡ suc at = omega (arith, end_is) in (
+          right_by s lab at (instr.Jump to) (label st [] (suc r)) (label need [] least) agrees.0
+              (record {
+                falls = omega (arith, less);
+                knows = λ v k. inl (h.known v k);
+                may_read = λ v k. absurd (in_none v k);
+                stays = λ next k. record { field = h.field; gathered = h.gathered; visit = refl };
+                takes = refl;
+                kind = making.plain s (instr.Jump to) refl refl;
+              })
+              (λ next k. subst (λ (n : ℕ). Eases (label need [] least) (lab n)) (sym (only_one next to k)) (leads lab out))
+              (visits_not lab at st [] (suc r) agrees.0) (subst (λ (n : ℕ). (lab n).behind ≡ Anything) here eases.behind),
+          tt,
+        ));
   }
 
   pub jump_done : (exit : Exits → ℕ) → ((need : Standing) (to : Exits) (least : ℕ) (lab : ℕ → Label) → Leads (Some need) to least lab → Eases (label need [] least) (lab (exit to))) → Done (jump_to exit) jumping
@@ -482,9 +497,9 @@ module _ (s : Setting) (w : Whole s) where
     proper = λ exits st after proper e. same_standing after st (jumps_is exits st after e).3 proper;
     grows = λ exits st after e u h. same_known after st (jumps_is exits st after e).3 u h;
     made = λ exits st after proper e p to least r less carries.
-      (let k = jumps_is exits st after e in
-      subst (λ (z : Standing). Made s (Leads exits to least) p.at (instr.Jump (exit to) ∷ []) st [] (label z [] r)) k.3
-      (jump_made (Leads exits to least) p.at (exit to) st k.0 least r less (covers_is st k.0 k.2)
+        (let k = jumps_is exits st after e in
+        subst (λ (z : Standing). Made s (Leads exits to least) p.at (instr.Jump (exit to) ∷ []) st [] (label z [] r)) k.3
+        (jump_made (Leads exits to least) p.at (exit to) st k.0 least r less (covers_is st k.0 k.2)
         (λ lab out. leads k.0 to least lab (subst (λ (o : Around). Leads o to least lab) k.1 out))));
   }
 
@@ -501,9 +516,9 @@ module _ (s : Setting) (w : Whole s) where
     proper = λ exits st after proper e. same_standing after st (so_is (is_void s.around.result) st after e).1 proper;
     grows = λ exits st after e u h. same_known after st (so_is (is_void s.around.result) st after e).1 u h;
     made = λ exits st after proper e p to least r less carries.
-      (let k = so_is (is_void s.around.result) st after e in
-      subst (λ (z : Standing). Made s (Leads exits to least) p.at (instr.ReturnVoid ∷ []) st [] (label z [] r)) k.1
-      (anywhere (Leads exits to least) p.at (instr.ReturnVoid ∷ []) st [] (label st [] r) (void_made p.at st r k.0)));
+        (let k = so_is (is_void s.around.result) st after e in
+        subst (λ (z : Standing). Made s (Leads exits to least) p.at (instr.ReturnVoid ∷ []) st [] (label z [] r)) k.1
+        (anywhere (Leads exits to least) p.at (instr.ReturnVoid ∷ []) st [] (label st [] r) (void_made p.at st r k.0)));
   }
   return_done (Some x) =
       let test : Standing → Bool = λ st. takes s.around st x s.around.result && not (is_void s.around.result) in
@@ -512,11 +527,11 @@ module _ (s : Setting) (w : Whole s) where
         proper = λ exits st after proper e. same_standing after st (so_is (test st) st after e).1 proper;
         grows = λ exits st after e u h. same_known after st (so_is (test st) st after e).1 u h;
         made = λ exits st after proper e p to least r less carries.
-          (let k = so_is (test st) st after e in
-          let typed = takes_is s.around st x s.around.result (and_left (takes s.around st x s.around.result) (not (is_void s.around.result)) k.0) in
-          let value = and_right (takes s.around st x s.around.result) (not (is_void s.around.result)) k.0 in
-          let place = p.at + (code_of c x).size in
-          subst (λ (z : Standing). Made s (Leads exits to least) p.at ((behind (code_of c x) instr.Return).from p.at) st [] (label z [] r)) k.1
-          (one_more (Leads exits to least) p.at place ((code_of c x).from p.at) (instr.Return ∷ []) st st [] (on_top s.around.result []) r (behind_place s w.fit (code_of c x) (value_long x) p.at)
+            (let k = so_is (test st) st after e in
+            let typed = takes_is s.around st x s.around.result (and_left (takes s.around st x s.around.result) (not (is_void s.around.result)) k.0) in
+            let value = and_right (takes s.around st x s.around.result) (not (is_void s.around.result)) k.0 in
+            let place = p.at + (code_of c x).size in
+            subst (λ (z : Standing). Made s (Leads exits to least) p.at ((behind (code_of c x) instr.Return).from p.at) st [] (label z [] r)) k.1
+            (one_more (Leads exits to least) p.at place ((code_of c x).from p.at) (instr.Return ∷ []) st st [] (on_top s.around.result []) r (behind_place s w.fit (code_of c x) (value_long x) p.at)
             (λ q. value_made x s.around.result st proper typed p.at [] q) (return_made place s.around.result st r refl value)));
       }

@@ -109,7 +109,7 @@ module _ (scope : Scope) where
       let last = (jumped_over (piece_of scope second.0)).from jump_at to in
       stops_behind ((code_of scope.context test).from p.at) ((guarded 1 (piece_of scope first.0)).from test_at to ++ last)
       (stops_behind ((guarded 1 (piece_of scope first.0)).from test_at to) last
-        (stops_behind (instr.Jump (jump_at.at + 1 + (piece_of scope second.0).size) ∷ []) ((piece_of scope second.0).from (moved 1 jump_at) to) (second.1 none.1 (moved 1 jump_at) to)))
+      (stops_behind (instr.Jump (jump_at.at + 1 + (piece_of scope second.0).size) ∷ []) ((piece_of scope second.0).from (moved 1 jump_at) to) (second.1 none.1 (moved 1 jump_at) to)))
   layer (s.Loop start test update body) e p to = loop_halts (in_order (map (piece_of scope) (bares start))) test (map (piece_of scope) (bares update)) (piece_of scope body.0) p to
   layer s.Break e p to = tt
   layer s.Continue e p to = tt

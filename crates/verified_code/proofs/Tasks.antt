@@ -116,15 +116,15 @@ module _ (class : Class) (program : Program) (live : List (List (List ℕ))) (ty
       let c = behinds.cuts n at u m code in
       let same = same_task k (number_behind flat.methods n m at) t c.of is number c.is_task in
       BehindCut n at u m code.is_method code.is_code number (ap (λ (x : Task). x.method) (sym same) ∙ c.in_method) (ap (λ (x : Task). x.at) (sym same) ∙ c.right_behind)
-        (λ e. no_start_kind flat.fields (first_field (drop (suc at) m.code)) (is_visit (drop (suc at) m.code)) (sym c.has_kind ∙ ap (λ (x : Task). x.kind) same ∙ e))
-        (subst (λ (x : Task). AreLive m.code (suc at) x.vars) same c.variables)
+      (λ e. no_start_kind flat.fields (first_field (drop (suc at) m.code)) (is_visit (drop (suc at) m.code)) (sym c.has_kind ∙ ap (λ (x : Task). x.kind) same ∙ e))
+      (subst (λ (x : Task). AreLive m.code (suc at) x.vars) same c.variables)
 
   by_part : (k n at u : ℕ) (m : GraphMethod) (t : Task) → IsTask graph k t → k ≡ number_behind flat.methods n m at → HasEntryCode flat.methods n m at (instr.Part u) → TaskIs k t
   by_part k n at u m t is number code =
       let c = behinds.parts n at u m code in
       let same = same_task k (number_behind flat.methods n m at) t c.of is number c.is_task in
       BehindPart n at u m code.is_method code.is_code (ap (λ (x : Task). x.method) (sym same) ∙ c.in_method) (ap (λ (x : Task). x.at) (sym same) ∙ c.right_behind)
-        (ap (λ (x : Task). x.kind) (sym same) ∙ c.has_kind) (subst (λ (x : Task). AreLive m.code (suc at) x.vars) same c.variables)
+      (ap (λ (x : Task). x.kind) (sym same) ∙ c.has_kind) (subst (λ (x : Task). AreLive m.code (suc at) x.vars) same c.variables)
 
   by_start : (k n : ℕ) (m : GraphMethod) (t : Task) → IsTask graph k t → IsMethod graph n m → m.kind ≡ method_kind.Entry → k ≡ start_number flat.methods n → TaskIs k t
   by_start k n m t is is_m entry number =
@@ -152,7 +152,11 @@ module _ (class : Class) (program : Program) (live : List (List (List ℕ))) (ty
   starts n m is entry =
       let c = behinds.starts n m is entry in
       record {
-        number = start_number flat.methods n; of = c.of; is_task = c.is_task; is_start = c.starts; of_method = c.in_method;
+        number = start_number flat.methods n;
+        of = c.of;
+        is_task = c.is_task;
+        is_start = c.starts;
+        of_method = c.in_method;
         only = λ k t is_task is_start in_method. (elim (task_is k t is_task) [
           | Starts o x is_x number own_method at_first starting vars ↦ number ∙ ap (start_number flat.methods) (sym own_method ∙ in_method)
           | BehindCut o at u x is_x code numbered own_method behind other vars ↦ absurd (other is_start)
@@ -171,15 +175,15 @@ module _ (class : Class) (program : Program) (live : List (List (List ℕ))) (ty
       elim (task_is k t is_task) [
         | Starts o x is_x number own_method at_first starting vars ↦ (omega (arith, at, at_first))
         | BehindCut o place u x is_x cut numbered own_method behind other vars ↦
-          (let same : m ≡ x = some_is m x (sym is ∙ ap (slice_get graph.methods) (sym in_method ∙ own_method) ∙ is_x) in
-          let here : before ≡ place = omega (arith, at, behind) in
-          let both : i ≡ instr.Cut u = some_is i (instr.Cut u) (sym code ∙ ap (λ (y : GraphMethod). slice_get y.code before) same ∙ ap (slice_get x.code) here ∙ cut) in
-          plain (subst IsEnd (sym both) tt))
+            (let same : m ≡ x = some_is m x (sym is ∙ ap (slice_get graph.methods) (sym in_method ∙ own_method) ∙ is_x) in
+            let here : before ≡ place = omega (arith, at, behind) in
+            let both : i ≡ instr.Cut u = some_is i (instr.Cut u) (sym code ∙ ap (λ (y : GraphMethod). slice_get y.code before) same ∙ ap (slice_get x.code) here ∙ cut) in
+            plain (subst IsEnd (sym both) tt))
         | BehindPart o place u x is_x cut own_method behind joins vars ↦
-          (let same : m ≡ x = some_is m x (sym is ∙ ap (slice_get graph.methods) (sym in_method ∙ own_method) ∙ is_x) in
-          let here : before ≡ place = omega (arith, at, behind) in
-          let both : i ≡ instr.Part u = some_is i (instr.Part u) (sym code ∙ ap (λ (y : GraphMethod). slice_get y.code before) same ∙ ap (slice_get x.code) here ∙ cut) in
-          plain (subst IsEnd (sym both) tt))
+            (let same : m ≡ x = some_is m x (sym is ∙ ap (slice_get graph.methods) (sym in_method ∙ own_method) ∙ is_x) in
+            let here : before ≡ place = omega (arith, at, behind) in
+            let both : i ≡ instr.Part u = some_is i (instr.Part u) (sym code ∙ ap (λ (y : GraphMethod). slice_get y.code before) same ∙ ap (slice_get x.code) here ∙ cut) in
+            plain (subst IsEnd (sym both) tt))
       ]
 
   -- ---- behind turns and accesses
@@ -204,8 +208,8 @@ module _ (class : Class) (program : Program) (live : List (List (List ℕ))) (ty
   only_behind n at before m i b is k behind other place code plain = record {
     behind = place;
     no_jump = λ o j h jumps.
-      (let here : slice_get m.code o ≡ Some j = subst (λ (z : GraphMethod). slice_get z.code o ≡ Some j) (same_method n m h.of is h.is_method) h.is_code in
-      other (sym behind ∙ ((labels_of n m k).right o j here).jumps at jumps));
+        (let here : slice_get m.code o ≡ Some j = subst (λ (z : GraphMethod). slice_get z.code o ≡ Some j) (same_method n m h.of is h.is_method) h.is_code in
+        other (sym behind ∙ ((labels_of n m k).right o j here).jumps at jumps));
     no_start = λ q t is_task in_method at_place. no_task n before m i is code plain q t is_task in_method (at_place ∙ place);
   }
 
@@ -265,19 +269,19 @@ module _ (class : Class) (program : Program) (live : List (List (List ℕ))) (ty
       let alive = needed_live t.method m is v t.at needed in
       elim (task_is q t is_task) [
         | Starts o x is_x number own_method at_first starting vars ↦
-          (let same : x ≡ m = same_method t.method m x is (ap (slice_get graph.methods) own_method ∙ is_x) in
-          let k = lays class program graph.tasks typed t.method m is in
-          let live_first : IsLive m.code v 0 = subst (λ (a : ℕ). IsLive m.code v a) at_first alive in
-          let live_own : IsLive (own class program graph.tasks k.m k.b k.task).code v 0 = subst (λ (z : GraphMethod). IsLive z.code v 0) (sym k.is) live_first in
-          let known = live_known (setting class program graph.tasks k.m k.b k.task) (bodies.at_first k.b) (own class program graph.tasks k.m k.b k.task).code k.labels v 0 live_own in
-          let few : v < m.params = subst (λ (z : GraphMethod). v < z.params) k.is (first_read class program graph.tasks typed k.m k.b k.task v k.body k.labels known) in
-          subst (λ (vs : List ℕ). IsIn v vs) (sym (vars ∙ ap parameters same)) (range_has v 0 m.params (omega arith) (omega (arith, few))))
+            (let same : x ≡ m = same_method t.method m x is (ap (slice_get graph.methods) own_method ∙ is_x) in
+            let k = lays class program graph.tasks typed t.method m is in
+            let live_first : IsLive m.code v 0 = subst (λ (a : ℕ). IsLive m.code v a) at_first alive in
+            let live_own : IsLive (own class program graph.tasks k.m k.b k.task).code v 0 = subst (λ (z : GraphMethod). IsLive z.code v 0) (sym k.is) live_first in
+            let known = live_known (setting class program graph.tasks k.m k.b k.task) (bodies.at_first k.b) (own class program graph.tasks k.m k.b k.task).code k.labels v 0 live_own in
+            let few : v < m.params = subst (λ (z : GraphMethod). v < z.params) k.is (first_read class program graph.tasks typed k.m k.b k.task v k.body k.labels known) in
+            subst (λ (vs : List ℕ). IsIn v vs) (sym (vars ∙ ap parameters same)) (range_has v 0 m.params (omega arith) (omega (arith, few))))
         | BehindCut o at u x is_x code numbered own_method behind other vars ↦
-          (let same : x ≡ m = same_method t.method m x is (ap (slice_get graph.methods) own_method ∙ is_x) in
-          vars.whole v (subst (λ (z : GraphMethod). IsLive z.code v (suc at)) (sym same) (subst (λ (a : ℕ). IsLive m.code v a) behind alive)))
+            (let same : x ≡ m = same_method t.method m x is (ap (slice_get graph.methods) own_method ∙ is_x) in
+            vars.whole v (subst (λ (z : GraphMethod). IsLive z.code v (suc at)) (sym same) (subst (λ (a : ℕ). IsLive m.code v a) behind alive)))
         | BehindPart o at u x is_x code own_method behind joins vars ↦
-          (let same : x ≡ m = same_method t.method m x is (ap (slice_get graph.methods) own_method ∙ is_x) in
-          vars.whole v (subst (λ (z : GraphMethod). IsLive z.code v (suc at)) (sym same) (subst (λ (a : ℕ). IsLive m.code v a) behind alive)))
+            (let same : x ≡ m = same_method t.method m x is (ap (slice_get graph.methods) own_method ∙ is_x) in
+            vars.whole v (subst (λ (z : GraphMethod). IsLive z.code v (suc at)) (sym same) (subst (λ (a : ℕ). IsLive m.code v a) behind alive)))
       ]
 
   -- ---- what a join carries, the visit carried
@@ -293,7 +297,7 @@ module _ (class : Class) (program : Program) (live : List (List (List ℕ))) (ty
       let r = (labels_of n m k).right place i code in
       let here : ((labels_of n m k).lab place).visit ≡ Some part = sym (r.stays next goes).visit ∙ e in
       back_live n m is k v part start place reach here
-        (IsReadLater place next i code (visit_keeps (setting class program graph.tasks k.m k.b k.task) (labels_of n m k).lab place i part v r here) (next_is place i next goes) alive)
+      (IsReadLater place next i code (visit_keeps (setting class program graph.tasks k.m k.b k.task) (labels_of n m k).lab place i part v r here) (next_is place i next goes) alive)
 
   pub joins : (q join at : ℕ) (t u : Task) (v : ℕ) → IsTask graph q t → ReachesCode graph t at (instr.Part join) → IsTask graph join u → IsIn v u.vars → IsIn v t.vars
   joins q join at t u v is_task way is_join h =
@@ -311,13 +315,13 @@ module _ (class : Class) (program : Program) (live : List (List (List ℕ))) (ty
       let back = back_live n m way.is_method k v at t.at at way.reaches r.own.visit at_part in
       elim (task_is q t is_task) [
         | Starts o x is_x number own_method at_first starting vars ↦
-          absurd (let first : (l.lab 0).visit ≡ Some at = subst (λ (a : ℕ). (l.lab a).visit ≡ Some at) at_first back.0 in none_some at (sym l.first_is.stays.visit ∙ first))
+            absurd (let first : (l.lab 0).visit ≡ Some at = subst (λ (a : ℕ). (l.lab a).visit ≡ Some at) at_first back.0 in none_some at (sym l.first_is.stays.visit ∙ first))
         | BehindCut o place x_t x is_x code numbered own_method behind other vars ↦
-          (let same_m : x ≡ m = same_method n m x way.is_method (ap (slice_get graph.methods) own_method ∙ is_x) in
-          vars.whole v (subst (λ (z : GraphMethod). IsLive z.code v (suc place)) (sym same_m) (subst (λ (a : ℕ). IsLive m.code v a) behind back.1)))
+            (let same_m : x ≡ m = same_method n m x way.is_method (ap (slice_get graph.methods) own_method ∙ is_x) in
+            vars.whole v (subst (λ (z : GraphMethod). IsLive z.code v (suc place)) (sym same_m) (subst (λ (a : ℕ). IsLive m.code v a) behind back.1)))
         | BehindPart o place x_t x is_x code own_method behind join_kind vars ↦
-          (let same_m : x ≡ m = same_method n m x way.is_method (ap (slice_get graph.methods) own_method ∙ is_x) in
-          vars.whole v (subst (λ (z : GraphMethod). IsLive z.code v (suc place)) (sym same_m) (subst (λ (a : ℕ). IsLive m.code v a) behind back.1)))
+            (let same_m : x ≡ m = same_method n m x way.is_method (ap (slice_get graph.methods) own_method ∙ is_x) in
+            vars.whole v (subst (λ (z : GraphMethod). IsLive z.code v (suc place)) (sym same_m) (subst (λ (a : ℕ). IsLive m.code v a) behind back.1)))
       ]
 
   -- ---- one visit for a part
@@ -388,13 +392,15 @@ module _ (class : Class) (program : Program) (live : List (List (List ℕ))) (ty
         | Starts o x is_x number own_method at_first starting vars ↦ absurd (let e : kind.Start ≡ kind.Visit = sym starting ∙ visiting in cc)
         | BehindPart o place u x is_x code own_method behind join_kind vars ↦ absurd (let e : kind.Join ≡ kind.Visit = sym join_kind ∙ visiting in cc)
         | BehindCut o place u x is_x code numbered own_method behind other vars ↦
-          (let same_n : o ≡ n = sym own_method ∙ in_method in
-          let same_m : x ≡ m = same_method n m x is (ap (slice_get graph.methods) (sym same_n) ∙ is_x) in
-          record {
-            place = place; names = u;
-            is_cut = ap (λ (z : GraphMethod). slice_get z.code place) (sym same_m) ∙ code;
-            is = numbered ∙ ap (λ (j : ℕ). number_behind flat.methods j x place) same_n ∙ ap (λ (z : GraphMethod). number_behind flat.methods n z place) same_m;
-            visit = subst (λ (a : ℕ). ((labels_of n m k).lab a).visit ≡ Some part) behind visit })
+            (let same_n : o ≡ n = sym own_method ∙ in_method in
+            let same_m : x ≡ m = same_method n m x is (ap (slice_get graph.methods) (sym same_n) ∙ is_x) in
+            record {
+              place = place;
+              names = u;
+              is_cut = ap (λ (z : GraphMethod). slice_get z.code place) (sym same_m) ∙ code;
+              is = numbered ∙ ap (λ (j : ℕ). number_behind flat.methods j x place) same_n ∙ ap (λ (z : GraphMethod). number_behind flat.methods n z place) same_m;
+              visit = subst (λ (a : ℕ). ((labels_of n m k).lab a).visit ≡ Some part) behind visit;
+            })
       ]
 
   part_task : (t : Task) (at join : ℕ) → ReachesCode graph t at (instr.Part join) → (of : Task) × IsTask graph join of × (of.method ≡ t.method) × (of.at ≡ suc at)
@@ -427,8 +433,8 @@ module _ (class : Class) (program : Program) (live : List (List (List ℕ))) (ty
       let equal : first.place ≡ second.place = elim (below_or first.place second.place) [
         | inl less ↦ absurd (same_cut n m k at first.place second.place first.names second.names first.is_cut second.is_cut first.visit second.visit less)
         | inr most ↦ elim (below_or second.place first.place) [
-            | inl less ↦ absurd (same_cut n m k at second.place first.place second.names first.names second.is_cut first.is_cut second.visit first.visit less)
-            | inr least ↦ (omega (arith, most, least))
-          ]
+          | inl less ↦ absurd (same_cut n m k at second.place first.place second.names first.names second.is_cut first.is_cut second.visit first.visit less)
+          | inr least ↦ (omega (arith, most, least))
+        ]
       ] in
       first.is ∙ ap (number_behind flat.methods n m) equal ∙ sym second.is

@@ -103,7 +103,8 @@ module _ (s : Setting) (w : Whole s) where
         may_read = λ u h. absurd (in_none u h);
         stays = λ next h. record { field = inr refl; gathered = inr refl; visit = refl };
         takes = ap (λ o. stored_type o (on_top t [])) is ∙ one_off t [] value;
-        kind = making.plain s (instr.Store v) refl refl })
+        kind = making.plain s (instr.Store v) refl refl;
+      })
       (λ lab here. ap (λ (l : Label). l.visit) here)
 
   stored_made : (xs : List Expression) (ts : List ValueType) (v : ℕ) (st : Standing) → Proper s st → IsMet s.around st (needs_of_all xs) → types_of c xs ≡ Some ts → are_values ts ≡ true → Holds ts v → (at r : ℕ)
@@ -126,7 +127,7 @@ module _ (s : Setting) (w : Whole s) where
       let value = value_made s w x t st proper typed at [] storing.rank in
       let assigned = both s Anywhere at place ((code_of c x).from at) (instr.Store v ∷ []) st st [] (on_top t []) (label (with_known v st) [] rest.rank) (behind_place s w.fit (code_of c x) (value_long s w x) at) storing value in
       both s Anywhere at next_at (front.from at) ((stored_from c xs (suc v)).from next_at) st (with_known v st) [] [] (label (know_from (suc v) ts (with_known v st)) [] r)
-        (behind_place s w.fit front (long_behind s w.fit (code_of c x) (instr.Store v) (value_long s w x)) at) rest assigned
+      (behind_place s w.fit front (long_behind s w.fit (code_of c x) (instr.Store v) (value_long s w x)) at) rest assigned
 
   -- ---- a visit
 
@@ -169,7 +170,7 @@ module _ (s : Setting) (w : Whole s) where
         let there : parting part (outside before) (on_top sig.result []) (suc r) ≡ lab (suc at) = sym agrees.1.0 in
         let behind : Eases (label (gathering sig.result st) [] r) (lab (suc (suc at))) = subst (λ (n : ℕ). Eases (label (gathering sig.result st) [] r) (lab (suc n))) part_is eases in
         let to : (P : Label → Type 0) (next : ℕ) → IsIn next (suc at ∷ []) → P (parting part (outside before) (on_top sig.result []) (suc r)) → P (lab next) =
-          (λ P next h p. subst (λ (n : ℕ). P (lab n)) (sym (only_one next (suc at) h)) (subst P there p)) in
+        (λ P next h p. subst (λ (n : ℕ). P (lab n)) (sym (only_one next (suc at) h)) (subst P there p)) in
         let less : suc r < r + 2 = omega arith in
         let end : (next : ℕ) → IsIn next (suc (suc at) ∷ []) → Eases (label (gathering sig.result st) [] r) (lab next) = (λ next h. subst (λ (n : ℕ). Eases (label (gathering sig.result st) [] r) (lab n)) (sym (only_one next (suc (suc at)) h)) behind) in
         let accessing : Right s lab at (instr.Access name g.method) = record {
@@ -198,7 +199,8 @@ module _ (s : Setting) (w : Whole s) where
             visit = subst (λ (l : Label). l.visit ≡ Some (suc at)) there (ap Some part_is);
             behind = subst (λ (l : Label). l.behind ≡ Accessing) there refl;
             plain = behind.stays.visit;
-            no_field = none_of behind.stays.field };
+            no_field = none_of behind.stays.field;
+          };
           suits = subst (λ (b : Behind). Suits (instr.Part t) b) (sym behind.behind) tt;
           kind = entry_kind (instr.Part t) refl entry;
         } in
@@ -211,16 +213,17 @@ module _ (s : Setting) (w : Whole s) where
         let e = visiting part (outside before) stack_after (r + 2 + length ts) in
         let goes : Eases e (lab (suc at)) = subst (λ (z : Label). Eases e z) (sym next_is) (visit_eases part (outside before) stack_after (r + 2 + length ts)) in
         let step : Right s lab at (instr.Load v) =
-          right_by s lab at (instr.Load v) l e agrees.0
-          (record {
-            falls = omega arith;
-            knows = λ u h. inl h;
-            may_read = λ u h. subst (λ (n : ℕ). MayRead s (outside before) n) (sym (only_one u v h)) (IsKnown known.0);
-            stays = λ next h. record { field = inr refl; gathered = inr refl; visit = refl };
-            takes = ap (λ o. pushing o (Some stack)) held.0;
-            kind = making.plain s (instr.Load v) refl refl })
-          (λ next h. subst (λ (n : ℕ). Eases e (lab n)) (sym (only_one next (suc at) h)) goes)
-          (Visiting part (ap (λ (z : Label). z.visit) agrees.0) (omega (arith, place))) goes.behind in
+        right_by s lab at (instr.Load v) l e agrees.0
+        (record {
+          falls = omega arith;
+          knows = λ u h. inl h;
+          may_read = λ u h. subst (λ (n : ℕ). MayRead s (outside before) n) (sym (only_one u v h)) (IsKnown known.0);
+          stays = λ next h. record { field = inr refl; gathered = inr refl; visit = refl };
+          takes = ap (λ o. pushing o (Some stack)) held.0;
+          kind = making.plain s (instr.Load v) refl refl;
+        })
+        (λ next h. subst (λ (n : ℕ). Eases e (lab n)) (sym (only_one next (suc at) h)) goes)
+        (Visiting part (ap (λ (z : Label). z.visit) agrees.0) (omega (arith, place))) goes.behind in
         let k : v + 1 ≡ suc v = omega arith in
         (step, subst (λ (n : ℕ). Good s lab (suc at) (map instr.Load (range_with_len n (length ts)) ++ last_code t)) (sym k) rest)
 
@@ -238,11 +241,12 @@ module _ (s : Setting) (w : Whole s) where
         let vls = visit_labels part (outside before) sig.result r ts [] in
         let code_v = map instr.Load (range_with_len v (length ts)) ++ last_code u in
         let m = turned s Out at (instr.Cut t) before [] e refl
-          (record { falls = omega arith; knows = λ w k. inl k; may_read = λ w k. absurd (in_none w k); stays = λ next k. absurd (in_none next k); takes = refl; kind = entry_kind (instr.Cut t) refl entry })
-          (λ lab here behind. record {
-            plain = ap (λ (l : Label). l.visit) here;
-            turned = ap (λ (l : Label). l.behind) here;
-            to = ToVisit g.field part h is_field partial (ap (λ (l : Label). l.stack) here) behind.stays.visit (omega arith) (none_of behind.stays.field) (none_of behind.stays.gathered) }) in
+        (record { falls = omega arith; knows = λ w k. inl k; may_read = λ w k. absurd (in_none w k); stays = λ next k. absurd (in_none next k); takes = refl; kind = entry_kind (instr.Cut t) refl entry })
+        (λ lab here behind. record {
+          plain = ap (λ (l : Label). l.visit) here;
+          turned = ap (λ (l : Label). l.behind) here;
+          to = ToVisit g.field part h is_field partial (ap (λ (l : Label). l.stack) here) behind.stays.visit (omega arith) (none_of behind.stays.field) (none_of behind.stays.gathered);
+        }) in
         let above_m : r + 2 + length ts ≤ m.rank = m.above in
         let long_m = m.long in
         let many_labels = length-append m.labels vls in
@@ -255,15 +259,15 @@ module _ (s : Setting) (w : Whole s) where
           long = omega (arith, many_labels, many_visit, long_code, long_m);
           begins = joined m.labels vls (label before [] m.rank) e (label (gathering sig.result st) [] r) m.begins (labels_begin part r ts [] (label (gathering sig.result st) [] r));
           good = λ lab last last_is agrees eases out.
-            (let own_m = agrees_left lab at m.labels vls agrees in
-            let own_v : Agrees lab k vls = agrees_right lab at k m.labels vls (omega (arith, long_m)) agrees in
-            let first = visit_begins lab k part (outside before) sig.result r ts [] own_v in
-            let to_visit : Eases e (lab k) = subst (λ (z : Label). Eases e z) (sym first) (visit_eases part (outside before) [] (r + 2 + length ts)) in
-            let last_of : last ≡ suc part = omega (arith, last_is, long_code) in
-            let ends : Eases (label (gathering sig.result st) [] r) (lab (suc part)) = subst (λ (n : ℕ). Eases (label (gathering sig.result st) [] r) (lab n)) last_of eases in
-            let good_m : Good s lab at (instr.Turn ∷ instr.Cut t ∷ []) = m.good lab k (omega arith) own_m to_visit out in
-            let good_v : Good s lab k code_v = visit_good lab u part r ts v k [] (omega arith) (without_pushed ts [] meets.values) held known own_v ends in
-            (good_m.0, (good_m.1.0, good_v)));
+              (let own_m = agrees_left lab at m.labels vls agrees in
+              let own_v : Agrees lab k vls = agrees_right lab at k m.labels vls (omega (arith, long_m)) agrees in
+              let first = visit_begins lab k part (outside before) sig.result r ts [] own_v in
+              let to_visit : Eases e (lab k) = subst (λ (z : Label). Eases e z) (sym first) (visit_eases part (outside before) [] (r + 2 + length ts)) in
+              let last_of : last ≡ suc part = omega (arith, last_is, long_code) in
+              let ends : Eases (label (gathering sig.result st) [] r) (lab (suc part)) = subst (λ (n : ℕ). Eases (label (gathering sig.result st) [] r) (lab n)) last_of eases in
+              let good_m : Good s lab at (instr.Turn ∷ instr.Cut t ∷ []) = m.good lab k (omega arith) own_m to_visit out in
+              let good_v : Good s lab k code_v = visit_good lab u part r ts v k [] (omega arith) (without_pushed ts [] meets.values) held known own_v ends in
+              (good_m.0, (good_m.1.0, good_v)));
         }
       where
         code_long : (v : ℕ) (ts : List ValueType) (u : ℕ) → length (map instr.Load (range_with_len v (length ts)) ++ last_code u) ≡ length ts + 2
@@ -300,8 +304,15 @@ module _ (s : Setting) (w : Whole s) where
       let args = and_right b d rest in
       let h = holder_is (slice_get s.around.fields g.field) (and_left b d rest) in
       record {
-        sig = sig; is = refl; entry = entry_is s w s.around.kind (and_left a (b && d) k.0); holder = h.0; is_field = h.1; partial = h.2;
-        met = is_met s.around st (needs_of_all g.args) (and_left needed typed args); typed = types_are (types_of c g.args) sig.arguments (and_right needed typed args); after_is = k.1;
+        sig = sig;
+        is = refl;
+        entry = entry_is s w s.around.kind (and_left a (b && d) k.0);
+        holder = h.0;
+        is_field = h.1;
+        partial = h.2;
+        met = is_met s.around st (needs_of_all g.args) (and_left needed typed args);
+        typed = types_are (types_of c g.args) sig.arguments (and_right needed typed args);
+        after_is = k.1;
       }
 
   types_many : (xs : List Expression) (ts : List ValueType) → types_of c xs ≡ Some ts → length xs ≡ length ts
@@ -311,40 +322,40 @@ module _ (s : Setting) (w : Whole s) where
   pub gather_done : (g : Gather) → Pieced s (code.gather (scope s) g) (λ exits st. checking.gather s.around g (checking.signature_of s.around g.field g.method) st)
   gather_done g = record {
     long = λ p to.
-      (let first = stored c g.args in
-      let cut_at = behind_piece p first in
-      let visit_at = behind_piece cut_at cut in
-      let e = stored_long g.args p.variable p.at in
-      let f = stored_size g.args p.variable 0 in
-      let n = loads_long visit_at.variable (length g.args) in
-      let many = length-append (first.from p to) ((then_piece cut (visit (scope s) g)).from cut_at to) in
-      let more = length-append (map instr.Load (range_with_len visit_at.variable (length g.args))) (instr.Access (code.field_name (scope s) g.field) g.method ∷ instr.Part visit_at.task ∷ []) in
-      omega (arith, e, f, n, many, more));
+        (let first = stored c g.args in
+        let cut_at = behind_piece p first in
+        let visit_at = behind_piece cut_at cut in
+        let e = stored_long g.args p.variable p.at in
+        let f = stored_size g.args p.variable 0 in
+        let n = loads_long visit_at.variable (length g.args) in
+        let many = length-append (first.from p to) ((then_piece cut (visit (scope s) g)).from cut_at to) in
+        let more = length-append (map instr.Load (range_with_len visit_at.variable (length g.args))) (instr.Access (code.field_name (scope s) g.field) g.method ∷ instr.Part visit_at.task ∷ []) in
+        omega (arith, e, f, n, many, more));
     proper = λ exits st after proper e. (let k = gathered_is g (checking.signature_of s.around g.field g.method) st after e in inl k.entry);
     grows = λ exits st after e u h. (let k = gathered_is g (checking.signature_of s.around g.field g.method) st after e in same_known s w after (gathering k.sig.result st) k.after_is u h);
     made = λ exits st after proper e p to least r less carries.
-      (let k = gathered_is g (checking.signature_of s.around g.field g.method) st after e in
-      let meets = w.fields g.field g.method k.sig k.is in
-      let Out = Leads exits to least in
-      let first = stored c g.args in
-      let cut_at = behind_piece p first in
-      let visit_at = behind_piece cut_at cut in
-      let ts = k.sig.arguments in
-      let before = know_from p.variable ts st in
-      let carried : Carries s (flat_map var_type ts) p.variable = subst (λ (o : Option Signature). Carries s (flat_map var_type (arguments_of o)) p.variable) meets.of_code carries in
-      let held = holds ts p.variable meets.values carried in
-      let v : p.variable ≡ visit_at.variable = omega arith in
-      let many : length ts ≡ length g.args = sym (types_many g.args ts k.typed) in
-      let visited = visit_made g k.sig meets k.entry st before (know_more p.variable ts st) Out cut_at.at cut_at.task visit_at.task p.variable r k.holder k.is_field k.partial held (all_known p.variable ts st) in
-      let tail : List Instr = instr.Access (code.field_name (scope s) g.field) g.method ∷ instr.Part visit_at.task ∷ [] in
-      let by_place : Made s Out cut_at.at (instr.Turn ∷ instr.Cut cut_at.task ∷ (map instr.Load (range_with_len visit_at.variable (length ts)) ++ tail)) before [] (label (gathering k.sig.result st) [] r) =
+        (let k = gathered_is g (checking.signature_of s.around g.field g.method) st after e in
+        let meets = w.fields g.field g.method k.sig k.is in
+        let Out = Leads exits to least in
+        let first = stored c g.args in
+        let cut_at = behind_piece p first in
+        let visit_at = behind_piece cut_at cut in
+        let ts = k.sig.arguments in
+        let before = know_from p.variable ts st in
+        let carried : Carries s (flat_map var_type ts) p.variable = subst (λ (o : Option Signature). Carries s (flat_map var_type (arguments_of o)) p.variable) meets.of_code carries in
+        let held = holds ts p.variable meets.values carried in
+        let v : p.variable ≡ visit_at.variable = omega arith in
+        let many : length ts ≡ length g.args = sym (types_many g.args ts k.typed) in
+        let visited = visit_made g k.sig meets k.entry st before (know_more p.variable ts st) Out cut_at.at cut_at.task visit_at.task p.variable r k.holder k.is_field k.partial held (all_known p.variable ts st) in
+        let tail : List Instr = instr.Access (code.field_name (scope s) g.field) g.method ∷ instr.Part visit_at.task ∷ [] in
+        let by_place : Made s Out cut_at.at (instr.Turn ∷ instr.Cut cut_at.task ∷ (map instr.Load (range_with_len visit_at.variable (length ts)) ++ tail)) before [] (label (gathering k.sig.result st) [] r) =
         subst (λ (n : ℕ). Made s Out cut_at.at (instr.Turn ∷ instr.Cut cut_at.task ∷ (map instr.Load (range_with_len n (length ts)) ++ tail)) before [] (label (gathering k.sig.result st) [] r)) v visited in
-      let rest : Made s Out cut_at.at ((then_piece cut (visit (scope s) g)).from cut_at to) before [] (label (gathering k.sig.result st) [] r) =
+        let rest : Made s Out cut_at.at ((then_piece cut (visit (scope s) g)).from cut_at to) before [] (label (gathering k.sig.result st) [] r) =
         subst (λ (n : ℕ). Made s Out cut_at.at (instr.Turn ∷ instr.Cut cut_at.task ∷ (map instr.Load (range_with_len visit_at.variable n) ++ tail)) before [] (label (gathering k.sig.result st) [] r)) many by_place in
-      let long = stored_long g.args p.variable p.at in
-      let size = stored_size g.args p.variable 0 in
-      subst (λ (z : Standing). Made s Out p.at ((code.gather (scope s) g).from p to) st [] (label z [] r)) k.after_is
-      (both s Out p.at cut_at.at (first.from p to) ((then_piece cut (visit (scope s) g)).from cut_at to) st before [] [] (label (gathering k.sig.result st) [] r) (omega (arith, long, size)) rest
+        let long = stored_long g.args p.variable p.at in
+        let size = stored_size g.args p.variable 0 in
+        subst (λ (z : Standing). Made s Out p.at ((code.gather (scope s) g).from p to) st [] (label z [] r)) k.after_is
+        (both s Out p.at cut_at.at (first.from p to) ((then_piece cut (visit (scope s) g)).from cut_at to) st before [] [] (label (gathering k.sig.result st) [] r) (omega (arith, long, size)) rest
         (anywhere s w Out p.at (first.from p to) st [] (label before [] rest.rank) (stored_made g.args ts p.variable st proper k.met k.typed meets.values held p.at rest.rank))));
   }
     where

@@ -13,8 +13,8 @@ pub fn typed_classes_are_sound()
 
 /// The graph that is cut of a class whose bodies are typed, with its live variables, is well cut: each
 /// number names something, each entry method has one start, each task carries what it needs, a visit
-/// carries what its join does, a turn stands before each cut and call, and an access before each part,
-/// and no run comes there in another way. It does nothing when it runs.
+/// carries what its join does, no two visits end in the same part, a turn stands before each cut and
+/// call, and an access before each part, and no run comes there in another way. It does nothing when it runs.
 pub fn typed_classes_are_well_cut()
     ensures { TypedClassesAreWellCut }
 {}
