@@ -20,11 +20,9 @@ use Rattle.sdg_top.specs.declared.answer.Answer.{Answer}
 use Rattle.sdg_top.specs.declared.status.Status.{Status}
 use Rattle.sdg_top.specs.declared.status.Status.TheVariants as status
 use Rattle.sdg_top.specs.Answers.{unreadable_line, too_long_line}
-use Rattle.sdg_top.specs.declared.command.Command.{Command}
-use Rattle.sdg_top.specs.Commands.{Text, TakesThird, AreWords, files_of, texts_of}
-use Rattle.sdg_top.specs.Due.{DueForSchedule, RefusesSchedule, ReportedSchedule, ReportedDefault, DueForRun, RefusesCalls, TakesCalls, DueForPlain, RefusesPlainCalls, RunsPlain, DueForTexts, RefusesClass, RefusesForm, RunsForm, RefusesPartial, RunsWhole, RunsAlong, DueForHistory, RefusesHistory, RunsHistory, DueForReplay, RefusesReplayCalls, TakesReplayCalls, AskFor, Due, NoCommand, UnreadableFile, LongFile, CommandAnswers, AreTold, NoFault, IsAnswer, WritesPrefix}
+use Rattle.sdg_top.specs.Commands.{Text, Request, Run, Plain, Replay, Ask, AreAlike, BothRun, BothRunScheduled, BothPlain, BothReplay, files_of, texts_of}
+use Rattle.sdg_top.specs.Due.{DueForSchedule, RefusesSchedule, ReportedSchedule, ReportedDefault, DueForRun, RefusesCalls, TakesCalls, DueForPlain, RefusesPlainCalls, RunsPlain, DueForTexts, RefusesClass, RefusesForm, RunsForm, RefusesPartial, RunsWhole, RunsAlong, DueForHistory, RefusesHistory, RunsHistory, DueForReplay, RefusesReplayCalls, TakesReplayCalls, AskFor, Due, NoCommand, UnreadableFile, LongFile, RequestAnswers, AreTold, NoFault, IsAnswer, WritesPrefix}
 use Rattle.sdg_top.specs.Read.{SaysWhy, NoRead, NoRoom, AreTexts}
-use Rattle.sdg_top.proofs.Names.{takes_any}
 
 due_as : (words : List Text) (files : Told) (s s' : Status) (t t' : Text) → s' ≡ s → t' ≡ t → Due words files s t → Due words files s' t'
 due_as words files s s' t t' p q d = subst (λ (x : Status). Due words files x t') (sym p) (subst (λ (y : Text). Due words files s y) (sym q) d)
@@ -52,28 +50,42 @@ module _ (content : Text → Option Text) (faults : ℕ) (reads : Option (List R
 -- ---- the texts of a command
 
 -- the files that were read have the texts of the command
-pub files_read : (content : Text → Option Text) (command : Command) (class calls : Text) (third : Option Text) (reads : List ReadCall) (texts : List Text) → TakesThird command third → AreRead content (files_of class calls third) reads texts → AreTexts command texts
-files_read content command class calls None reads texts takes (First n l text m r c f ts are ends was (First n2 l2 text2 m2 r2 c2 f2 ts2 are2 ends2 was2 Nothing)) =
-    record { class = text; calls = text2; third = None; takes = takes; are = refl; class_small = was.within; calls_small = was2.within; third_small = tt }
-files_read content command class calls (Some third) reads texts takes (First n l text m r c f ts are ends was (First n2 l2 text2 m2 r2 c2 f2 ts2 are2 ends2 was2 (First n3 l3 text3 m3 r3 c3 f3 ts3 are3 ends3 was3 Nothing))) =
-    record { class = text; calls = text2; third = Some text3; takes = takes_any command third text3 takes; are = refl; class_small = was.within; calls_small = was2.within; third_small = was3.within }
+pub files_read : (content : Text → Option Text) (names : Request) (reads : List ReadCall) (texts : List Text) → AreRead content (files_of names) reads texts → AreTexts names texts
+files_read content (Run class calls None) reads texts (First n l text m r c f ts are ends was (First n2 l2 text2 m2 r2 c2 f2 ts2 are2 ends2 was2 Nothing)) =
+    record { of = Run text text2 None; alike = BothRun class calls text text2; are = refl; small = (was.within, (was2.within, tt)) }
+files_read content (Run class calls (Some schedule)) reads texts (First n l text m r c f ts are ends was (First n2 l2 text2 m2 r2 c2 f2 ts2 are2 ends2 was2 (First n3 l3 text3 m3 r3 c3 f3 ts3 are3 ends3 was3 Nothing))) =
+    record {
+      of = Run text text2 (Some text3);
+      alike = BothRunScheduled class calls schedule text text2 text3;
+      are = refl;
+      small = (was.within, (was2.within, (was3.within, tt)));
+    }
+files_read content (Plain class calls) reads texts (First n l text m r c f ts are ends was (First n2 l2 text2 m2 r2 c2 f2 ts2 are2 ends2 was2 Nothing)) =
+    record { of = Plain text text2; alike = BothPlain class calls text text2; are = refl; small = (was.within, (was2.within, tt)) }
+files_read content (Replay class calls history) reads texts (First n l text m r c f ts are ends was (First n2 l2 text2 m2 r2 c2 f2 ts2 are2 ends2 was2 (First n3 l3 text3 m3 r3 c3 f3 ts3 are3 ends3 was3 Nothing))) =
+    record {
+      of = Replay text text2 text3;
+      alike = BothReplay class calls history text text2 text3;
+      are = refl;
+      small = (was.within, (was2.within, (was3.within, tt)));
+    }
 
-pub files_whole : (files : Told) (command : Command) (class calls : Text) (third : Option Text) (texts : List Text) → TakesThird command third → Reads files (files_of class calls third) (AllRead texts) → AreTexts command texts
-files_whole files command class calls third texts takes reads = whole (AllRead texts) refl reads.are
+pub files_whole : (files : Told) (names : Request) (texts : List Text) → Reads files (files_of names) (AllRead texts) → AreTexts names texts
+files_whole files names texts reads = whole (AllRead texts) refl reads.are
   where
-    whole : (ending : Ending) → ending ≡ AllRead texts → ReadsOf files.content (files_of class calls third) reads.calls ending → AreTexts command texts
-    whole (AllRead texts') same (Whole ts read) = subst (λ (w : List Text). AreTexts command w) (let e : texts' ≡ texts = cc in e) (files_read files.content command class calls third reads.calls texts' takes read)
+    whole : (ending : Ending) → ending ≡ AllRead texts → ReadsOf files.content (files_of names) reads.calls ending → AreTexts names texts
+    whole (AllRead texts') same (Whole ts read) = subst (λ (w : List Text). AreTexts names w) (let e : texts' ≡ texts = cc in e) (files_read files.content names reads.calls texts' read)
     whole (Unreadable name) same of = absurd cc
     whole (TooLong name) same of = absurd cc
     whole CutShort same of = absurd cc
 
 -- Where the texts of a command were read, what they are due is due.
-pub due_read : (words : List Text) (files : Told) (command : Command) (class calls : Text) (third : Option Text) (texts : List Text) (result : Result Answer AllocError) → AreWords words command class calls third → Reads files (files_of class calls third) (AllRead texts)
-    → ((c k : Text) (o : Option Text) → texts ≡ texts_of c k o → IfOk result (λ a. DueForTexts c k command o a.status a.text)) → IfOk result (λ a. Due words files a.status a.text)
-due_read words files command class calls third texts result are reads given =
-    let t = files_whole files command class calls third texts are.takes reads in
-    IfOk-weaker result _ _ (λ a d. CommandAnswers command class calls third t.class t.calls t.third a.text a.status are (subst (λ (w : List Text). Reads files (files_of class calls third) (AllRead w)) t.are reads) d)
-    (given t.class t.calls t.third t.are)
+pub due_read : (words : List Text) (files : Told) (names : Request) (texts : List Text) (result : Result Answer AllocError) → Ask words names → Reads files (files_of names) (AllRead texts)
+    → ((of : Request) → AreAlike names of → texts ≡ texts_of of → IfOk result (λ a. DueForTexts of a.status a.text)) → IfOk result (λ a. Due words files a.status a.text)
+due_read words files names texts result ask reads given =
+    let t = files_whole files names texts reads in
+    IfOk-weaker result _ _ (λ a d. RequestAnswers names t.of a.text a.status ask t.alike (subst (λ (w : List Text). Reads files (files_of names) (AllRead w)) t.are reads) d)
+    (given t.of t.alike t.are)
 
 -- ---- what was read of files that tell their contents
 
@@ -153,13 +165,13 @@ replay_answer : (class : Class) (calls_text history_text : Text) (s : Status) (t
 replay_answer class calls_text history_text s t (RefusesReplayCalls line rule broken) = inr (inl refl)
 replay_answer class calls_text history_text s t (TakesReplayCalls calls answer text are d) = history_answer (program_of class) calls (fields_of class) history_text s t d
 
-texts_answer : (class_text calls_text : Text) (command : Command) (o : Option Text) (s : Status) (t : Text) → DueForTexts class_text calls_text command o s t → IsOfTexts s
-texts_answer class_text calls_text command o s t (RefusesClass command' o' phase at refused) = inl refl
-texts_answer class_text calls_text command o s t (RefusesForm schedule class accepts none) = inl refl
-texts_answer class_text calls_text command o s t (RunsForm schedule class answer text accepts proper d) = run_answer class calls_text schedule s t d
-texts_answer class_text calls_text command o s t (RefusesPartial class at accepts is) = inl refl
-texts_answer class_text calls_text command o s t (RunsWhole class answer text accepts whole d) = plain_answer class calls_text s t d
-texts_answer class_text calls_text command o s t (RunsAlong history class answer text accepts d) = replay_answer class calls_text history s t d
+texts_answer : (texts : Request) (s : Status) (t : Text) → DueForTexts texts s t → IsOfTexts s
+texts_answer texts s t (RefusesClass texts' phase at refused) = inl refl
+texts_answer texts s t (RefusesForm class_text calls_text schedule_text class accepts none) = inl refl
+texts_answer texts s t (RunsForm class_text calls_text schedule_text class answer text accepts proper d) = run_answer class calls_text schedule_text s t d
+texts_answer texts s t (RefusesPartial class_text calls_text class at accepts is) = inl refl
+texts_answer texts s t (RunsWhole class_text calls_text class answer text accepts whole d) = plain_answer class calls_text s t d
+texts_answer texts s t (RunsAlong class_text calls_text history_text class answer text accepts d) = replay_answer class calls_text history_text s t d
 
 no_read : (s : Status) → IsOfTexts s → s ≡ status.Read → ⊥
 no_read s (inl e) is = absurd cc
@@ -176,14 +188,14 @@ pub read_rises : (words : List Text) (files : Told) (s : Status) (t : Text) → 
 read_rises words files s t (NoCommand none reads) is = absurd cc
 read_rises words files s t (UnreadableFile asked name ask reads) is = reads.faults
 read_rises words files s t (LongFile asked name ask reads) is = absurd cc
-read_rises words files s t (CommandAnswers command class calls third class_text calls_text third_text text answer are reads d) is = absurd (no_read s (texts_answer class_text calls_text command third_text s t d) is)
+read_rises words files s t (RequestAnswers names texts text answer ask alike reads d) is = absurd (no_read s (texts_answer texts s t d) is)
 
 -- where it is not told, no fault of the files rose
 pub read_or_stays : (words : List Text) (files : Told) (s : Status) (t : Text) → Due words files s t → (s ≡ status.Read) ⊎ (files.faults_after ≡ files.faults_before)
 read_or_stays words files s t (NoCommand none reads) = inr reads.faults
 read_or_stays words files s t (UnreadableFile asked name ask reads) = inl refl
 read_or_stays words files s t (LongFile asked name ask reads) = inr reads.faults
-read_or_stays words files s t (CommandAnswers command class calls third class_text calls_text third_text text answer are reads d) = inr reads.faults
+read_or_stays words files s t (RequestAnswers names texts text answer ask alike reads d) = inr reads.faults
 
 pub unread : (words : List Text) (files : Told) (s : Status) (t : Text) → Due words files s t → files.faults_before < files.faults_after → s ≡ status.Read
 unread words files s t d rose = either (read_or_stays words files s t d)
@@ -197,7 +209,7 @@ pub not_write : (words : List Text) (files : Told) (s : Status) (t : Text) → D
 not_write words files s t (NoCommand none reads) is = absurd cc
 not_write words files s t (UnreadableFile asked name ask reads) is = absurd cc
 not_write words files s t (LongFile asked name ask reads) is = absurd cc
-not_write words files s t (CommandAnswers command class calls third class_text calls_text third_text text answer are reads d) is = no_write s (texts_answer class_text calls_text command third_text s t d) is
+not_write words files s t (RequestAnswers names texts text answer ask alike reads d) is = no_write s (texts_answer texts s t d) is
 
 -- a prefix of a due text was written
 pub prefix_of_due : (words : List Text) (files : Told) (s : Status) (t : Text) (before after : Option Text) → Due words files s t → AppendsPrefix before after t → WritesPrefix words files before after

@@ -1,9 +1,9 @@
+pub mod Alike
 pub mod Commas
 pub mod Dues
 pub mod Entering
 pub mod Fit
 pub mod Members
-pub mod Names
 pub mod Judgements
 pub mod Replying
 pub mod Runs

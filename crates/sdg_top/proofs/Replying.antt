@@ -1,5 +1,5 @@
 -- What an answer is due, whose status and text are known.
-use Rattle.std.proofs.Common.{◌≡◌, ℕ, Option, Some, None, refl, sym, subst}
+use Rattle.std.proofs.Common.{◌≡◌, ℕ, Option, Some, None, sym, subst}
 use Rattle.std.specs.Prelude.{IfOk, Result, Ok, Err}
 use Rattle.std.specs.declared.alloc.AllocError.{AllocError}
 use Rattle.run_text.specs.declared.error.TextError.{TextError}
@@ -8,9 +8,7 @@ use Rattle.sdg_top.specs.declared.answer.Answer.{Answer}
 use Rattle.sdg_top.specs.declared.status.Status.{Status}
 use Rattle.sdg_top.specs.declared.status.Status.TheVariants as status
 use Rattle.java_tree.specs.declared.token.Place.{Place}
-use Rattle.sdg_top.specs.declared.command.Command.{Command}
-use Rattle.sdg_top.specs.declared.command.Command.TheVariants.{Run, Plain, Replay}
-use Rattle.sdg_top.specs.Commands.{Text, TakesThird}
+use Rattle.sdg_top.specs.Commands.{Text}
 
 -- an answer of this status and this text
 pub replied : (Due : Status → Text → Type 0) (result : Result Answer AllocError) (s : Status) (text : Text) → IfOk result (λ a. a.status ≡ s) → IfOk result (λ a. a.text ≡ text) → Due s text → IfOk result (λ a. Due a.status a.text)
@@ -33,11 +31,3 @@ no_memory e line rule bad memory = absurd cc
 
 pub not_both : (o : Option Place) (at : Place) → o ≡ None → o ≡ Some at → ⊥
 not_both o at none some = absurd cc
-
--- ---- the third file that a command takes
-
-pub without_third : (command : Command) (third : Option Text) → command ≡ Plain → TakesThird command third → third ≡ None
-without_third Plain None is takes = refl
-without_third Plain (Some third) is takes = absurd takes
-without_third Run third is takes = absurd cc
-without_third Replay third is takes = absurd cc

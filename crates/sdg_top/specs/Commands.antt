@@ -3,51 +3,51 @@ use Rattle.std.specs.Prelude.{◌≡◌, ℕ, List, [], ◌∷◌, codes, Option
 use Rattle.std.specs.Option.{option_copied, option_map}
 use Rattle.std.specs.String.{string_bytes}
 use Rattle.sdg_top.specs.declared.command.Command.{Command}
-use Rattle.sdg_top.specs.declared.command.Named.{Named}
-use Rattle.sdg_top.specs.declared.command.Command.TheVariants.{Run, Plain, Replay}
+use Rattle.sdg_top.specs.declared.command.Command.TheVariants as command
 
 abbrev pub Text : Type 0
 Text = List ℕ
 
-abbrev pub command_name : Command → Text
-command_name Run = codes "run"
-command_name Plain = codes "plain"
-command_name Replay = codes "replay"
+-- A command with a text for each of its files: the file's name, where the words are spoken of, or its content.
+pub data Request : Type 0 where
+  -- calls run on the graph of their class, under this schedule or the default one
+  Run : (class calls : Text) (schedule : Option Text) → Request
+  -- calls run one after the other, as plain Java
+  Plain : (class calls : Text) → Request
+  -- calls run along a history
+  Replay : (class calls history : Text) → Request
 
--- Whether a third file is named behind the class and the calls: `run` may have a schedule, and `replay` has a history.
-abbrev pub TakesThird : Command → Option Text → Type 0
-TakesThird Run third = Unit {0}
-TakesThird Plain None = Unit {0}
-TakesThird Plain (Some third) = ⊥
-TakesThird Replay None = ⊥
-TakesThird Replay (Some third) = Unit {0}
+abbrev pub command_name : Request → Text
+command_name (Run class calls schedule) = codes "run"
+command_name (Plain class calls) = codes "plain"
+command_name (Replay class calls history) = codes "replay"
 
-abbrev pub command_words : Command → Text → Text → Option Text → List Text
-command_words command class calls None = command_name command ∷ class ∷ calls ∷ []
-command_words command class calls (Some third) = command_name command ∷ class ∷ calls ∷ third ∷ []
+-- its texts, in the order of the words
+abbrev pub texts_of : Request → List Text
+texts_of (Run class calls None) = class ∷ calls ∷ []
+texts_of (Run class calls (Some schedule)) = class ∷ calls ∷ schedule ∷ []
+texts_of (Plain class calls) = class ∷ calls ∷ []
+texts_of (Replay class calls history) = class ∷ calls ∷ history ∷ []
 
--- the words are the command with these files
-pub record AreWords (words : List Text) (command : Command) (class calls : Text) (third : Option Text) : Type 0 where
-  pub takes : TakesThird command third
-  pub are : words ≡ command_words command class calls third
+-- ---- words
 
--- a command with the names of its files
-abbrev pub class_named : Named → Text
-class_named named = string_bytes named.class.now
+-- the name of the command, and those of its files
+abbrev pub words_of : Request → List Text
+words_of names = command_name names ∷ texts_of names
 
-abbrev pub calls_named : Named → Text
-calls_named named = string_bytes named.calls.now
+-- the words ask for it
+abbrev pub Ask : List Text → Request → Type 0
+Ask words names = words ≡ words_of names
 
-abbrev pub third_named : Named → Option Text
-third_named named = option_map string_bytes (option_copied named.third)
+-- they are of no command
+abbrev pub AskForNothing : List Text → Type 0
+AskForNothing words = (names : Request) → Ask words names → ⊥
 
--- the words name it
-abbrev pub AreOf : Named → List Text → Type 0
-AreOf named words = AreWords words named.command (class_named named) (calls_named named) (third_named named)
-
--- the words are of no command
-abbrev pub AreNoCommand : List Text → Type 0
-AreNoCommand words = (command : Command) (class calls : Text) (third : Option Text) → AreWords words command class calls third → ⊥
+-- the names of a command's files
+abbrev pub request_of : Command → Request
+request_of (command.Run class calls schedule) = Run (string_bytes class.now) (string_bytes calls.now) (option_map string_bytes (option_copied schedule))
+request_of (command.Plain class calls) = Plain (string_bytes class.now) (string_bytes calls.now)
+request_of (command.Replay class calls history) = Replay (string_bytes class.now) (string_bytes calls.now) (string_bytes history.now)
 
 -- ---- files
 
@@ -55,16 +55,20 @@ AreNoCommand words = (command : Command) (class calls : Text) (third : Option Te
 abbrev pub class_limit : ℕ
 class_limit = 1048576
 
--- of a calls file, and of a third file
-abbrev pub calls_limit : ℕ
-calls_limit = 16777216
+-- of each other file
+abbrev pub other_limit : ℕ
+other_limit = 16777216
 
 -- the files in the order of the words, each with the most bytes that it may have
-abbrev pub files_of : Text → Text → Option Text → List (Text × ℕ)
-files_of class calls None = (class, class_limit) ∷ (calls, calls_limit) ∷ []
-files_of class calls (Some third) = (class, class_limit) ∷ (calls, calls_limit) ∷ (third, calls_limit) ∷ []
+abbrev pub files_of : Request → List (Text × ℕ)
+files_of (Run class calls None) = (class, class_limit) ∷ (calls, other_limit) ∷ []
+files_of (Run class calls (Some schedule)) = (class, class_limit) ∷ (calls, other_limit) ∷ (schedule, other_limit) ∷ []
+files_of (Plain class calls) = (class, class_limit) ∷ (calls, other_limit) ∷ []
+files_of (Replay class calls history) = (class, class_limit) ∷ (calls, other_limit) ∷ (history, other_limit) ∷ []
 
--- their texts
-abbrev pub texts_of : Text → Text → Option Text → List Text
-texts_of class calls None = class ∷ calls ∷ []
-texts_of class calls (Some third) = class ∷ calls ∷ third ∷ []
+-- The same command with as many files: one has their names, and the other what they hold.
+pub data AreAlike : Request → Request → Type 0 where
+  BothRun : (class calls class' calls' : Text) → AreAlike (Run class calls None) (Run class' calls' None)
+  BothRunScheduled : (class calls schedule class' calls' schedule' : Text) → AreAlike (Run class calls (Some schedule)) (Run class' calls' (Some schedule'))
+  BothPlain : (class calls class' calls' : Text) → AreAlike (Plain class calls) (Plain class' calls')
+  BothReplay : (class calls history class' calls' history' : Text) → AreAlike (Replay class calls history) (Replay class' calls' history')

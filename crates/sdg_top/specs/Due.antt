@@ -21,12 +21,10 @@ use Rattle.run_text.specs.Calls.{AreCalls, IsFirstBreak}
 use Rattle.run_text.specs.Schedules.{IsSchedule, IsFirstScheduleBreak}
 use Rattle.sdg_keep.specs.Writes.{Appends}
 use Rattle.sdg_keep.specs.Endings.{Ending, AllRead, Unreadable, TooLong, Told, Reads}
-use Rattle.sdg_top.specs.declared.command.Command.{Command}
-use Rattle.sdg_top.specs.declared.command.Command.TheVariants.{Run, Plain, Replay}
 use Rattle.sdg_top.specs.declared.lines.InputText.TheVariants.{Calls, Schedule, History}
 use Rattle.sdg_top.specs.declared.status.Status.{Status}
 use Rattle.sdg_top.specs.declared.status.Status.TheVariants as status
-use Rattle.sdg_top.specs.Commands.{Text, calls_limit, files_of, texts_of, AreWords, AreNoCommand}
+use Rattle.sdg_top.specs.Commands.{Text, Request, Run, Plain, Replay, Ask, AskForNothing, AreAlike, files_of, texts_of, other_limit}
 use Rattle.sdg_top.specs.Entrances.{entrances_of, fields_of}
 use Rattle.sdg_top.specs.Answers.{usage_line, class_refused_line, text_refused_line, unreadable_line, too_long_line}
 use Rattle.sdg_top.specs.Accepted.{IsClassText, IsAccepted, Accepts, IsRefused, typed_of, program_of, IsReport}
@@ -35,7 +33,7 @@ use Rattle.sdg_top.specs.Replies.{plain_text, replay_text}
 -- a third file's text within the limit, if there is one
 abbrev pub IsShort : Option Text → Type 0
 IsShort None = Unit {0}
-IsShort (Some text) = length text ≤ calls_limit
+IsShort (Some text) = length text ≤ other_limit
 
 -- ---- `run`: what the texts of a class of the form, of calls and of a schedule are due
 
@@ -74,30 +72,35 @@ pub data DueForReplay (class : Class) (calls_text history_text : Text) : Status 
 
 -- ---- what the texts are due
 
--- The third text is a schedule under `run`, and a history under `replay`.
-pub data DueForTexts (class_text calls_text : Text) : Command → Option Text → Status → Text → Type 0 where
+-- the text of the class
+abbrev pub class_text_of : Request → Text
+class_text_of (Run class_text calls_text schedule_text) = class_text
+class_text_of (Plain class_text calls_text) = class_text
+class_text_of (Replay class_text calls_text history_text) = class_text
+
+pub data DueForTexts : Request → Status → Text → Type 0 where
   -- the class is refused by this phase at this place
-  RefusesClass : (command : Command) (third : Option Text) (phase : Text) (at : Place) → IsRefused class_text phase at
-      → DueForTexts class_text calls_text command third status.Class (class_refused_line phase at.line at.column)
+  RefusesClass : (texts : Request) (phase : Text) (at : Place) → IsRefused (class_text_of texts) phase at
+      → DueForTexts texts status.Class (class_refused_line phase at.line at.column)
   -- it is accepted, but not of the form that runs
-  RefusesForm : (schedule : Option Text) (class : Class) → Accepts class_text class → (IsStraightForm class → ⊥)
-      → DueForTexts class_text calls_text Run schedule status.Class (class_refused_line (codes "form") first_place.line first_place.column)
-  RunsForm : (schedule : Option Text) (class : StraightClass) (answer : Status) (text : Text) → Accepts class_text (class_tree class) → IsProper class → DueForRun class calls_text schedule answer text
-      → DueForTexts class_text calls_text Run schedule answer text
+  RefusesForm : (class_text calls_text : Text) (schedule_text : Option Text) (class : Class) → Accepts class_text class → (IsStraightForm class → ⊥)
+      → DueForTexts (Run class_text calls_text schedule_text) status.Class (class_refused_line (codes "form") first_place.line first_place.column)
+  RunsForm : (class_text calls_text : Text) (schedule_text : Option Text) (class : StraightClass) (answer : Status) (text : Text) → Accepts class_text (class_tree class) → IsProper class → DueForRun class calls_text schedule_text answer text
+      → DueForTexts (Run class_text calls_text schedule_text) answer text
   -- it is accepted, and the first partial field begins at this place
-  RefusesPartial : (class : Class) (at : Place) → Accepts class_text class → first_partial (typed_of class) ≡ Some at
-      → DueForTexts class_text calls_text Plain None status.Class (class_refused_line (codes "plain") at.line at.column)
-  RunsWhole : (class : Class) (answer : Status) (text : Text) → Accepts class_text class → first_partial (typed_of class) ≡ None → DueForPlain class calls_text answer text
-      → DueForTexts class_text calls_text Plain None answer text
-  RunsAlong : (history : Text) (class : Class) (answer : Status) (text : Text) → Accepts class_text class → DueForReplay class calls_text history answer text
-      → DueForTexts class_text calls_text Replay (Some history) answer text
+  RefusesPartial : (class_text calls_text : Text) (class : Class) (at : Place) → Accepts class_text class → first_partial (typed_of class) ≡ Some at
+      → DueForTexts (Plain class_text calls_text) status.Class (class_refused_line (codes "plain") at.line at.column)
+  RunsWhole : (class_text calls_text : Text) (class : Class) (answer : Status) (text : Text) → Accepts class_text class → first_partial (typed_of class) ≡ None → DueForPlain class calls_text answer text
+      → DueForTexts (Plain class_text calls_text) answer text
+  RunsAlong : (class_text calls_text history_text : Text) (class : Class) (answer : Status) (text : Text) → Accepts class_text class → DueForReplay class calls_text history_text answer text
+      → DueForTexts (Replay class_text calls_text history_text) answer text
 
 -- ---- which files words name
 
 -- the files for which the words ask, none where they are of no command
 pub data AskFor (words : List Text) : List (Text × ℕ) → Type 0 where
-  CommandAsks : (command : Command) (class calls : Text) (third : Option Text) → AreWords words command class calls third → AskFor words (files_of class calls third)
-  NoneAsks : AreNoCommand words → AskFor words []
+  RequestAsks : (names : Request) → Ask words names → AskFor words (files_of names)
+  NoneAsks : AskForNothing words → AskFor words []
 
 -- the files for which the words ask were read in their order up to some end, and no others
 abbrev pub ReadsAsked : List Text → Told → Type 0
@@ -107,14 +110,14 @@ ReadsAsked words files = (asked : List (Text × ℕ)) × (ending : Ending) × As
 
 pub data Due (words : List Text) (files : Told) : Status → Text → Type 0 where
   -- the words are of no command
-  NoCommand : AreNoCommand words → Reads files [] (AllRead []) → Due words files status.Words usage_line
+  NoCommand : AskForNothing words → Reads files [] (AllRead []) → Due words files status.Words usage_line
   -- a read of a file failed, once those before it were read
   UnreadableFile : (asked : List (Text × ℕ)) (name : Text) → AskFor words asked → Reads files asked (Unreadable name) → Due words files status.Read (unreadable_line name)
   -- a file gave more bytes than its limit, once those before it were read
   LongFile : (asked : List (Text × ℕ)) (name : Text) → AskFor words asked → Reads files asked (TooLong name) → Due words files status.TooLong (too_long_line name)
   -- every file was read to its end
-  CommandAnswers : (command : Command) (class calls : Text) (third : Option Text) (class_text calls_text : Text) (third_text : Option Text) (text : Text) (answer : Status) → AreWords words command class calls third
-      → Reads files (files_of class calls third) (AllRead (texts_of class_text calls_text third_text)) → DueForTexts class_text calls_text command third_text answer text → Due words files answer text
+  RequestAnswers : (names texts : Request) (text : Text) (answer : Status) → Ask words names → AreAlike names texts → Reads files (files_of names) (AllRead (texts_of texts)) → DueForTexts texts answer text
+      → Due words files answer text
 
 -- ---- what is written
 
@@ -164,11 +167,10 @@ pub record AreValidForReplay (class_text calls_text history_text : Text) : Type 
   pub replayed : Replayed
   pub is_replayed : IsReplayed (program_of class) calls (fields_of class) (lines history_text) replayed
 
-abbrev pub AreValid : Command → Text → Text → Option Text → Type 0
-AreValid Run class_text calls_text schedule_text = AreValidForRun class_text calls_text schedule_text
-AreValid Plain class_text calls_text third_text = AreValidForPlain class_text calls_text
-AreValid Replay class_text calls_text None = ⊥
-AreValid Replay class_text calls_text (Some history_text) = AreValidForReplay class_text calls_text history_text
+abbrev pub AreValid : Request → Type 0
+AreValid (Run class_text calls_text schedule_text) = AreValidForRun class_text calls_text schedule_text
+AreValid (Plain class_text calls_text) = AreValidForPlain class_text calls_text
+AreValid (Replay class_text calls_text history_text) = AreValidForReplay class_text calls_text history_text
 
 -- the contents of the files are told, within their limits
 abbrev pub AreTold : (Text → Option Text) → List (Text × ℕ) → List Text → Type 0
@@ -178,16 +180,12 @@ AreTold content _ _ = ⊥
 
 -- the words are a command whose texts are in order, and the files tell their contents
 pub record IsValid (words : List Text) (content : Text → Option Text) : Type 0 where
-  pub command : Command
-  pub class : Text
-  pub calls : Text
-  pub third : Option Text
-  pub are_words : AreWords words command class calls third
-  pub class_text : Text
-  pub calls_text : Text
-  pub third_text : Option Text
-  pub told : AreTold content (files_of class calls third) (texts_of class_text calls_text third_text)
-  pub in_order : AreValid command class_text calls_text third_text
+  pub names : Request
+  pub texts : Request
+  pub asked : Ask words names
+  pub alike : AreAlike names texts
+  pub told : AreTold content (files_of names) (texts_of texts)
+  pub in_order : AreValid texts
 
 -- no fault rose: the count stands where it stood, below its end
 pub record NoFault (before after : ℕ) : Type 0 where

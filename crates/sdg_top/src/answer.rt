@@ -1,17 +1,16 @@
 //! The answer that texts are due.
 
-ghost use Rattle.std.specs.Prelude.{◌≡◌, ◌≤◌, None, Some, length, IfOk};
+ghost use Rattle.std.specs.Prelude.{◌≡◌, ◌≤◌, length, IfOk};
 ghost use Rattle.std.specs.Option.{option_copied};
 ghost use Rattle.java_tree.specs.declared.tree.Class.{Class as ClassOf};
 ghost use Rattle.sdg_top.specs.Accepted.{Accepts, annotated_of};
+ghost use Rattle.sdg_top.specs.Acceptance.{phase_text};
 ghost use Rattle.sdg_top.specs.Answers.{class_refused_line, text_refused_line};
-ghost use Rattle.sdg_top.specs.Commands.{Text, TakesThird};
+ghost use Rattle.sdg_top.specs.Commands.{Text, Run, Plain, Replay};
 ghost use Rattle.sdg_top.specs.Due.{DueForTexts, AreValid, IsShort};
-ghost use Rattle.sdg_top.specs.declared.command.Command.TheVariants as command;
 
-use crate::accept::{FIRST, Judgement, judge};
+use crate::accept::{FIRST, Judgement, Phase, judge};
 use crate::called::{form_of, let_go, resolved};
-use crate::command::Command;
 use crate::lines::{InputText, class_refused, text_refused};
 use crate::plain::answer_plain;
 use crate::replay::answer_replay;
@@ -40,6 +39,15 @@ fn refuse_class(alloc: Global, phase: &str, at: Place) -> Result<Answer, AllocEr
     })
 }
 
+/// The answer to a class that a phase of its judgement refuses.
+fn refuse(alloc: Global, phase: Phase, at: Place) -> Result<Answer, AllocError>
+    ensures status { IfOk result (λ a. a.status ≡ Status.Class) }
+    ensures text { IfOk result (λ a. a.text ≡ class_refused_line (phase_text phase) at.line at.column) }
+{
+    let name = phase.text(alloc)?;
+    refuse_class(alloc, name.as_str(), at)
+}
+
 /// The answer to a text with a line that breaks a rule.
 pub(crate) fn refuse_text(
     alloc: Global,
@@ -65,8 +73,8 @@ fn answer_for_run(
 ) -> Result<Answer, AllocError>
     requires calls_size { length calls_text.now ≤ 16777216 }
     requires schedule_size { IsShort (option_copied schedule) }
-    ensures due { (text : Text) (class : ClassOf) → Accepts text class → annotated ≡ annotated_of class → IfOk result (λ a. DueForTexts text calls_text.now command.Run (option_copied schedule.entry) a.status a.text) }
-    ensures complete { (text : Text) (class : ClassOf) → Accepts text class → annotated ≡ annotated_of class → AreValid command.Run text calls_text.now (option_copied schedule.entry) → IfOk result (λ a. a.status ≡ Status.Done) }
+    ensures due { (text : Text) (class : ClassOf) → Accepts text class → annotated ≡ annotated_of class → IfOk result (λ a. DueForTexts (Run text calls_text.now (option_copied schedule.entry)) a.status a.text) }
+    ensures complete { (text : Text) (class : ClassOf) → Accepts text class → annotated ≡ annotated_of class → AreValid (Run text calls_text.now (option_copied schedule.entry)) → IfOk result (λ a. a.status ≡ Status.Done) }
 {
     match form_of(alloc, annotated)? {
         Some(form) => answer_run(alloc, &form, calls_text, schedule),
@@ -81,8 +89,8 @@ fn answer_for_plain(
     calls_text: &[u8],
 ) -> Result<Answer, AllocError>
     requires calls_size { length calls_text.now ≤ 16777216 }
-    ensures due { (text : Text) (class : ClassOf) → Accepts text class → annotated ≡ annotated_of class → IfOk result (λ a. DueForTexts text calls_text.now command.Plain None a.status a.text) }
-    ensures complete { (text : Text) (class : ClassOf) → Accepts text class → annotated ≡ annotated_of class → AreValid command.Plain text calls_text.now None → IfOk result (λ a. a.status ≡ Status.Done) }
+    ensures due { (text : Text) (class : ClassOf) → Accepts text class → annotated ≡ annotated_of class → IfOk result (λ a. DueForTexts (Plain text calls_text.now) a.status a.text) }
+    ensures complete { (text : Text) (class : ClassOf) → Accepts text class → annotated ≡ annotated_of class → AreValid (Plain text calls_text.now) → IfOk result (λ a. a.status ≡ Status.Done) }
 {
     match annotated.partial {
         Some(at) => {
@@ -105,57 +113,66 @@ fn answer_for_replay(
 ) -> Result<Answer, AllocError>
     requires calls_size { length calls_text.now ≤ 16777216 }
     requires history_size { length history_text.now ≤ 16777216 }
-    ensures due { (text : Text) (class : ClassOf) → Accepts text class → annotated ≡ annotated_of class → IfOk result (λ a. DueForTexts text calls_text.now command.Replay (Some history_text.now) a.status a.text) }
-    ensures complete { (text : Text) (class : ClassOf) → Accepts text class → annotated ≡ annotated_of class → AreValid command.Replay text calls_text.now (Some history_text.now) → IfOk result (λ a. a.status ≡ Status.Done) }
+    ensures due { (text : Text) (class : ClassOf) → Accepts text class → annotated ≡ annotated_of class → IfOk result (λ a. DueForTexts (Replay text calls_text.now history_text.now) a.status a.text) }
+    ensures complete { (text : Text) (class : ClassOf) → Accepts text class → annotated ≡ annotated_of class → AreValid (Replay text calls_text.now history_text.now) → IfOk result (λ a. a.status ≡ Status.Done) }
 {
     let called = resolved(alloc, annotated)?;
     answer_replay(alloc, &called, calls_text, history_text)
 }
 
-/// What the texts of an accepted class, of calls and of a third file are due.
-fn answer_class(
+/// What the texts of a class, of calls and of a schedule are due under `run`.
+pub(crate) fn run_texts(
     alloc: Global,
-    command: Command,
-    annotated: Annotated,
+    class_text: &[u8],
     calls_text: &[u8],
-    third: Option<&[u8]>,
+    schedule: Option<&[u8]>,
 ) -> Result<Answer, AllocError>
-    requires takes { TakesThird command (option_copied third) }
+    requires class_size { length class_text.now ≤ 1048576 }
     requires calls_size { length calls_text.now ≤ 16777216 }
-    requires third_size { IsShort (option_copied third) }
-    ensures due { (text : Text) (class : ClassOf) → Accepts text class → annotated ≡ annotated_of class → IfOk result (λ a. DueForTexts text calls_text.now command (option_copied third.entry) a.status a.text) }
-    ensures complete { (text : Text) (class : ClassOf) → Accepts text class → annotated ≡ annotated_of class → AreValid command text calls_text.now (option_copied third.entry) → IfOk result (λ a. a.status ≡ Status.Done) }
+    requires schedule_size { IsShort (option_copied schedule) }
+    ensures due { IfOk result (λ a. DueForTexts (Run class_text.now calls_text.now (option_copied schedule.entry)) a.status a.text) }
+    ensures complete { AreValid (Run class_text.now calls_text.now (option_copied schedule.entry)) → IfOk result (λ a. a.status ≡ Status.Done) }
 {
-    match command {
-        Command::Run => answer_for_run(alloc, annotated, calls_text, third),
-        Command::Plain => answer_for_plain(alloc, annotated, calls_text),
-        Command::Replay => match third {
-            Some(history) => answer_for_replay(alloc, annotated, calls_text, history),
-            None => unreachable!(),
-        },
+    match judge(alloc, class_text)? {
+        Judgement::Takes(annotated) => answer_for_run(alloc, annotated, calls_text, schedule),
+        Judgement::Refuses(phase, at) => refuse(alloc, phase, at),
     }
 }
 
-/// What the texts of a class, of calls and of a third file are due.
-pub(crate) fn answer_texts(
+/// What the texts of a class and of calls are due under `plain`.
+pub(crate) fn plain_texts(
     alloc: Global,
-    command: Command,
     class_text: &[u8],
     calls_text: &[u8],
-    third: Option<&[u8]>,
 ) -> Result<Answer, AllocError>
-    requires takes { TakesThird command (option_copied third) }
     requires class_size { length class_text.now ≤ 1048576 }
     requires calls_size { length calls_text.now ≤ 16777216 }
-    requires third_size { IsShort (option_copied third) }
-    ensures due { IfOk result (λ a. DueForTexts class_text.now calls_text.now command (option_copied third.entry) a.status a.text) }
-    ensures complete { AreValid command class_text.now calls_text.now (option_copied third.entry) → IfOk result (λ a. a.status ≡ Status.Done) }
+    ensures due { IfOk result (λ a. DueForTexts (Plain class_text.now calls_text.now) a.status a.text) }
+    ensures complete { AreValid (Plain class_text.now calls_text.now) → IfOk result (λ a. a.status ≡ Status.Done) }
 {
     match judge(alloc, class_text)? {
-        Judgement::Takes(annotated) => answer_class(alloc, command, annotated, calls_text, third),
-        Judgement::Refuses(phase, at) => {
-            let name = phase.text(alloc)?;
-            refuse_class(alloc, name.as_str(), at)
+        Judgement::Takes(annotated) => answer_for_plain(alloc, annotated, calls_text),
+        Judgement::Refuses(phase, at) => refuse(alloc, phase, at),
+    }
+}
+
+/// What the texts of a class, of calls and of a history are due under `replay`.
+pub(crate) fn replay_texts(
+    alloc: Global,
+    class_text: &[u8],
+    calls_text: &[u8],
+    history_text: &[u8],
+) -> Result<Answer, AllocError>
+    requires class_size { length class_text.now ≤ 1048576 }
+    requires calls_size { length calls_text.now ≤ 16777216 }
+    requires history_size { length history_text.now ≤ 16777216 }
+    ensures due { IfOk result (λ a. DueForTexts (Replay class_text.now calls_text.now history_text.now) a.status a.text) }
+    ensures complete { AreValid (Replay class_text.now calls_text.now history_text.now) → IfOk result (λ a. a.status ≡ Status.Done) }
+{
+    match judge(alloc, class_text)? {
+        Judgement::Takes(annotated) => {
+            answer_for_replay(alloc, annotated, calls_text, history_text)
         }
+        Judgement::Refuses(phase, at) => refuse(alloc, phase, at),
     }
 }

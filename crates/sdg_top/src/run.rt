@@ -1,16 +1,16 @@
 //! The words, the files and the output of a run.
 
-ghost use Rattle.std.specs.Prelude.{◌≡◌, ◌≢◌, ℕ, ◌≤◌, ◌<◌, List, All, map, Err, IfOk, Option};
+ghost use Rattle.std.specs.Prelude.{◌≡◌, ◌≢◌, ℕ, ◌≤◌, ◌<◌, List, [], ◌∷◌, All, map, Err, IfOk};
 ghost use Rattle.std.specs.String.{string_bytes};
 ghost use Rattle.sdg_keep.specs.Faults.{Rises};
 ghost use Rattle.sdg_keep.specs.Writes.{Appends, AppendsPrefix};
 ghost use Rattle.sdg_keep.specs.Endings.{told, file_asked, ending_of};
-ghost use Rattle.sdg_top.specs.Commands.{Text, TakesThird, AreOf, class_named, calls_named, third_named, files_of, texts_of};
+ghost use Rattle.sdg_top.specs.Commands.{Text, Request, Ask, AreAlike, request_of, files_of, texts_of, class_limit, other_limit};
 ghost use Rattle.sdg_top.specs.Due.{Due, DueForTexts, ReadsAsked, IsAnswer, WritesPrefix, AreTold, AreValid, IsValid, NoFault};
 ghost use Rattle.sdg_top.specs.Read.{SaysWhy, AreTexts};
 
-use crate::answer::{Answer, answer_texts};
-use crate::command::{Command, Named, command_in};
+use crate::answer::{Answer, plain_texts, replay_texts, run_texts};
+use crate::command::{Command, command_in};
 use crate::lines::{too_long, unreadable, usage};
 use crate::status::Status;
 use sdg_base::{Bytes, KeepError};
@@ -20,8 +20,8 @@ use std::alloc::{AllocError, Global};
 /// The most bytes of a class file.
 const CLASS_LIMIT: u64 = 1048576;
 
-/// The most bytes of a calls file, and of a third file.
-const CALLS_LIMIT: u64 = 16777216;
+/// The most bytes of each other file.
+const OTHER_LIMIT: u64 = 16777216;
 
 /// A file of this name with a limit.
 fn asked_file(alloc: Global, name: &String, limit: u64) -> Result<Asked, AllocError>
@@ -34,19 +34,57 @@ fn asked_file(alloc: Global, name: &String, limit: u64) -> Result<Asked, AllocEr
     })
 }
 
-/// The files of a command in the order of the words.
-fn asked_files(alloc: Global, named: &Named<'_>) -> Result<Vec<Asked>, AllocError>
+/// The files of a command on a class and calls.
+fn two_files(alloc: Global, class: &String, calls: &String) -> Result<Vec<Asked>, AllocError>
     ensures files { IfOk result (λ asked. map file_asked asked.items
-        ≡ files_of (class_named named.now) (calls_named named.now) (third_named named.now)) }
+        ≡ (string_bytes class.now, class_limit) ∷ (string_bytes calls.now, other_limit) ∷ []) }
     ensures low { IfOk result (λ asked. All (λ file. file.limit ≤ 16777216) asked.items) }
 {
     let mut asked = Vec::new(alloc);
-    asked.push(asked_file(alloc, named.class, CLASS_LIMIT)?)?;
-    asked.push(asked_file(alloc, named.calls, CALLS_LIMIT)?)?;
-    if let Some(third) = named.third {
-        asked.push(asked_file(alloc, third, CALLS_LIMIT)?)?;
-    }
+    asked.push(asked_file(alloc, class, CLASS_LIMIT)?)?;
+    asked.push(asked_file(alloc, calls, OTHER_LIMIT)?)?;
     Ok(asked)
+}
+
+/// The files of a command on a class, calls and a third file.
+fn three_files(
+    alloc: Global,
+    class: &String,
+    calls: &String,
+    third: &String,
+) -> Result<Vec<Asked>, AllocError>
+    ensures files { IfOk result (λ asked. map file_asked asked.items
+        ≡ (string_bytes class.now, class_limit) ∷ (string_bytes calls.now, other_limit) ∷ (string_bytes third.now, other_limit) ∷ []) }
+    ensures low { IfOk result (λ asked. All (λ file. file.limit ≤ 16777216) asked.items) }
+{
+    let mut asked = two_files(alloc, class, calls)?;
+    asked.push(asked_file(alloc, third, OTHER_LIMIT)?)?;
+    Ok(asked)
+}
+
+/// The files of a command in the order of the words.
+fn asked_files(alloc: Global, command: &Command<'_>) -> Result<Vec<Asked>, AllocError>
+    ensures files { IfOk result (λ asked. map file_asked asked.items ≡ files_of (request_of command.now)) }
+    ensures low { IfOk result (λ asked. All (λ file. file.limit ≤ 16777216) asked.items) }
+{
+    match *command {
+        Command::Run {
+            class,
+            calls,
+            schedule: None,
+        } => two_files(alloc, class, calls),
+        Command::Run {
+            class,
+            calls,
+            schedule: Some(schedule),
+        } => three_files(alloc, class, calls, schedule),
+        Command::Plain { class, calls } => two_files(alloc, class, calls),
+        Command::Replay {
+            class,
+            calls,
+            history,
+        } => three_files(alloc, class, calls, history),
+    }
 }
 
 /// The answer that says why files were not all read, unless memory was short.
@@ -66,22 +104,63 @@ fn answer_unread(alloc: Global, error: &FilesError) -> Result<Answer, AllocError
     }
 }
 
+/// What the two texts of a command's files are due.
+fn answer_two(
+    alloc: Global,
+    command: &Command<'_>,
+    class: &[u8],
+    calls: &[u8],
+) -> Result<Answer, AllocError>
+    requires { AreTexts (request_of command.now) (class.now ∷ calls.now ∷ []) }
+    ensures due { (texts : Request) → AreAlike (request_of command.now) texts → class.now ∷ calls.now ∷ [] ≡ texts_of texts
+        → IfOk result (λ a. DueForTexts texts a.status a.text) }
+    ensures complete { (texts : Request) → AreAlike (request_of command.now) texts → class.now ∷ calls.now ∷ [] ≡ texts_of texts
+        → AreValid texts → IfOk result (λ a. a.status ≡ Status.Done) }
+{
+    match *command {
+        Command::Run { .. } => run_texts(alloc, class, calls, None),
+        Command::Plain { .. } => plain_texts(alloc, class, calls),
+        Command::Replay { .. } => unreachable!(),
+    }
+}
+
+/// What the three texts of a command's files are due.
+fn answer_three(
+    alloc: Global,
+    command: &Command<'_>,
+    class: &[u8],
+    calls: &[u8],
+    third: &[u8],
+) -> Result<Answer, AllocError>
+    requires { AreTexts (request_of command.now) (class.now ∷ calls.now ∷ third.now ∷ []) }
+    ensures due { (texts : Request) → AreAlike (request_of command.now) texts → class.now ∷ calls.now ∷ third.now ∷ [] ≡ texts_of texts
+        → IfOk result (λ a. DueForTexts texts a.status a.text) }
+    ensures complete { (texts : Request) → AreAlike (request_of command.now) texts → class.now ∷ calls.now ∷ third.now ∷ [] ≡ texts_of texts
+        → AreValid texts → IfOk result (λ a. a.status ≡ Status.Done) }
+{
+    match *command {
+        Command::Run { .. } => run_texts(alloc, class, calls, Some(third)),
+        Command::Plain { .. } => unreachable!(),
+        Command::Replay { .. } => replay_texts(alloc, class, calls, third),
+    }
+}
+
 /// What the texts of a command's files are due.
-fn answer_read(alloc: Global, command: Command, texts: &[Bytes]) -> Result<Answer, AllocError>
-    requires { AreTexts command texts.now }
-    ensures due { (class calls : Text) (third : Option Text) → texts.now ≡ texts_of class calls third
-        → IfOk result (λ a. DueForTexts class calls command third a.status a.text) }
-    ensures complete { (class calls : Text) (third : Option Text) → texts.now ≡ texts_of class calls third
-        → AreValid command class calls third → IfOk result (λ a. a.status ≡ Status.Done) }
+fn answer_read(alloc: Global, command: &Command<'_>, texts: &[Bytes]) -> Result<Answer, AllocError>
+    requires { AreTexts (request_of command.now) texts.now }
+    ensures due { (of : Request) → AreAlike (request_of command.now) of → texts.now ≡ texts_of of
+        → IfOk result (λ a. DueForTexts of a.status a.text) }
+    ensures complete { (of : Request) → AreAlike (request_of command.now) of → texts.now ≡ texts_of of
+        → AreValid of → IfOk result (λ a. a.status ≡ Status.Done) }
 {
     match texts {
-        [class, calls] => answer_texts(alloc, command, class.as_slice(), calls.as_slice(), None),
-        [class, calls, third] => answer_texts(
+        [class, calls] => answer_two(alloc, command, class.as_slice(), calls.as_slice()),
+        [class, calls, third] => answer_three(
             alloc,
             command,
             class.as_slice(),
             calls.as_slice(),
-            Some(third.as_slice()),
+            third.as_slice(),
         ),
         _ => unreachable!(),
     }
@@ -91,20 +170,18 @@ fn answer_read(alloc: Global, command: Command, texts: &[Bytes]) -> Result<Answe
 fn answer_command<F: Files>(
     alloc: Global,
     files: &mut F,
-    named: &Named<'_>,
+    command: &Command<'_>,
 ) -> Result<Answer, AllocError>
-    requires { TakesThird named.now.command (third_named named.now) }
-    ensures due { (words : List Text) → AreOf named.now words → IfOk result (λ a. Due words (told F.content F.faults F.reads files.old files.new) a.status a.text) }
-    ensures complete { (class_text calls_text : Text) (third_text : Option Text)
-        → AreTold (F.content files.old) (files_of (class_named named.now) (calls_named named.now) (third_named named.now)) (texts_of class_text calls_text third_text)
-        → AreValid named.now.command class_text calls_text third_text → NoFault (F.faults files.old) (F.faults files.new) → IfOk result (λ a. a.status ≡ Status.Done) }
-    ensures reads { (words : List Text) → AreOf named.now words → ReadsAsked words (told F.content F.faults F.reads files.old files.new) }
+    ensures due { (words : List Text) → Ask words (request_of command.now) → IfOk result (λ a. Due words (told F.content F.faults F.reads files.old files.new) a.status a.text) }
+    ensures complete { (texts : Request) → AreAlike (request_of command.now) texts → AreTold (F.content files.old) (files_of (request_of command.now)) (texts_of texts)
+        → AreValid texts → NoFault (F.faults files.old) (F.faults files.new) → IfOk result (λ a. a.status ≡ Status.Done) }
+    ensures reads { (words : List Text) → Ask words (request_of command.now) → ReadsAsked words (told F.content F.faults F.reads files.old files.new) }
     ensures same { (other : List ℕ) → F.content files.new other ≡ F.content files.old other }
     ensures falls { F.faults files.old ≤ F.faults files.new }
 {
-    let asked = asked_files(alloc, named)?;
+    let asked = asked_files(alloc, command)?;
     match read_files(alloc, files, &asked) {
-        Ok(texts) => answer_read(alloc, named.command, texts.as_slice()),
+        Ok(texts) => answer_read(alloc, command, texts.as_slice()),
         Err(error) => answer_unread(alloc, &error),
     }
 }
@@ -120,7 +197,7 @@ fn answer<F: Files>(alloc: Global, words: &[String], files: &mut F) -> Result<An
     ensures falls { F.faults files.old ≤ F.faults files.new }
 {
     match command_in(words) {
-        Some(named) => answer_command(alloc, files, &named),
+        Some(command) => answer_command(alloc, files, &command),
         None => Ok(Answer {
             status: Status::Words,
             text: usage(alloc)?,

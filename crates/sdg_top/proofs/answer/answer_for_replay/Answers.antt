@@ -11,7 +11,7 @@ use Rattle.sdg_top.proofs.answer.answer_for_replay.Goals as goal
 
 pub returns-clause-due : goal.returns-clause-due
 returns-clause-due c = λ text class accepts is.
-    IfOk-weaker c.answer_replay.result _ _ (λ a d. RunsAlong c.args.history_text.now class a.status a.text accepts d) (c.answer_replay.ensures.due class (c.in_ok-called.ensures.called class is))
+    IfOk-weaker c.answer_replay.result _ _ (λ a d. RunsAlong _ _ _ class a.status a.text accepts d) (c.answer_replay.ensures.due class (c.in_ok-called.ensures.called class is))
 
 pub returns-clause-complete : goal.returns-clause-complete
 returns-clause-complete c = λ text class accepts is valid.

@@ -10,9 +10,8 @@ use Rattle.early_forms.specs.Trees.{class_tree}
 use Rattle.early_source.specs.Members.{fields}
 use Rattle.run_text.specs.Calls.{AreCalls}
 use Rattle.run_text.specs.Schedules.{IsSchedule}
-use Rattle.sdg_top.specs.declared.command.Command.TheVariants as command
 use Rattle.sdg_top.specs.Accepted.{Accepts}
-use Rattle.sdg_top.specs.Commands.{Text}
+use Rattle.sdg_top.specs.Commands.{Text, Run}
 use Rattle.sdg_top.specs.Due.{DueForTexts, RefusesForm, RunsForm, IsValidSchedule}
 use Rattle.sdg_top.specs.Entrances.{entrances_of}
 use Rattle.sdg_top.proofs.Members.{fields-class_tree}
@@ -31,7 +30,7 @@ pub returns-in-Some-clause-due : goal.returns-in-Some-clause-due
 returns-in-Some-clause-due c = λ text class accepts is.
     let form = rw c.in-Some.is at c.in_ok-form.ensures.form in
     let same : class ≡ class_tree c.in-Some.form.class = sym (ap (λ (a : Annotated). a.typed.class) is) ∙ form.0 in
-    IfOk-weaker c.answer_run.result _ _ (λ a d. RunsForm _ c.in-Some.form.class a.status a.text (subst (λ (k : Class). Accepts text k) same accepts) form.1 d) c.answer_run.ensures.due
+    IfOk-weaker c.answer_run.result _ _ (λ a d. RunsForm _ _ _ c.in-Some.form.class a.status a.text (subst (λ (k : Class). Accepts text k) same accepts) form.1 d) c.answer_run.ensures.due
 
 pub returns-in-Some-clause-complete : goal.returns-in-Some-clause-complete
 returns-in-Some-clause-complete c = λ text class accepts is valid.
@@ -46,8 +45,8 @@ pub returns-in-None-clause-due : goal.returns-in-None-clause-due
 returns-in-None-clause-due c = λ text class accepts is.
     let none : IsStraightForm c.args.annotated.typed.class → ⊥ = rw c.in-None.is at c.in_ok-form.ensures.form in
     let same : c.args.annotated.typed.class ≡ class = ap (λ (a : Annotated). a.typed.class) is in
-    class_refused (DueForTexts text c.args.calls_text.now command.Run (option_copied c.args.schedule)) c.refuse_class.result _ c.refuse_class.ensures.status c.refuse_class.ensures.text
-    (RefusesForm _ class accepts (λ form. none (subst (λ (k : Class). IsStraightForm k) (sym same) form)))
+    class_refused (DueForTexts (Run text c.args.calls_text.now (option_copied c.args.schedule))) c.refuse_class.result _ c.refuse_class.ensures.status c.refuse_class.ensures.text
+    (RefusesForm _ _ _ class accepts (λ form. none (subst (λ (k : Class). IsStraightForm k) (sym same) form)))
 
 pub returns-in-None-clause-complete : goal.returns-in-None-clause-complete
 returns-in-None-clause-complete c = λ text class accepts is valid.

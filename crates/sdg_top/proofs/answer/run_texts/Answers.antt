@@ -1,0 +1,20 @@
+use Rattle.std.specs.Option.{option_copied}
+use Rattle.sdg_top.specs.Commands.{Run}
+use Rattle.sdg_top.specs.Due.{DueForTexts, RefusesClass}
+use Rattle.sdg_top.proofs.Replying.{class_refused}
+use Rattle.sdg_top.proofs.answer.run_texts.Goals as goal
+
+pub returns-in-Takes-clause-due : goal.returns-in-Takes-clause-due
+returns-in-Takes-clause-due c =
+    let taken = rw c.in-Takes.is at c.in_ok-annotated.ensures.judges in
+    c.answer_for_run.ensures.due c.args.class_text.now taken.0 taken.1 taken.2
+
+pub returns-in-Takes-clause-complete : goal.returns-in-Takes-clause-complete
+returns-in-Takes-clause-complete c valid =
+    let taken = rw c.in-Takes.is at c.in_ok-annotated.ensures.judges in
+    c.answer_for_run.ensures.complete c.args.class_text.now taken.0 taken.1 taken.2 valid
+
+pub returns-in-Refuses-clause-due : goal.returns-in-Refuses-clause-due
+returns-in-Refuses-clause-due c =
+    let judged = rw c.in-Refuses.is at c.in_ok-annotated.ensures.judges in
+    class_refused (DueForTexts (Run c.args.class_text.now c.args.calls_text.now (option_copied c.args.schedule))) c.refuse.result _ c.refuse.ensures.status c.refuse.ensures.text (RefusesClass _ _ c.in-Refuses.at judged)
