@@ -20,8 +20,8 @@ use Rattle.sdg_top.specs.declared.answer.Answer.{Answer}
 use Rattle.sdg_top.specs.declared.status.Status.{Status}
 use Rattle.sdg_top.specs.declared.status.Status.TheVariants as status
 use Rattle.sdg_top.specs.Answers.{unreadable_line, too_long_line}
-use Rattle.sdg_top.specs.Commands.{Text, Request, Run, Plain, Replay, Ask, AreAlike, BothRun, BothRunScheduled, BothPlain, BothReplay, files_of, texts_of}
-use Rattle.sdg_top.specs.Due.{DueForSchedule, RefusesSchedule, ReportedSchedule, ReportedDefault, DueForRun, RefusesCalls, TakesCalls, DueForPlain, RefusesPlainCalls, RunsPlain, DueForTexts, RefusesClass, RefusesForm, RunsForm, RefusesPartial, RunsWhole, RunsAlong, DueForHistory, RefusesHistory, RunsHistory, DueForReplay, RefusesReplayCalls, TakesReplayCalls, AskFor, Due, NoCommand, UnreadableFile, LongFile, RequestAnswers, AreTold, NoFault, IsAnswer, WritesPrefix}
+use Rattle.sdg_top.specs.Commands.{Text, Request, Run, Plain, Replay, Graph, Ask, AreAlike, BothRun, BothRunScheduled, BothPlain, BothReplay, BothGraph, files_of, texts_of}
+use Rattle.sdg_top.specs.Due.{DueForSchedule, RefusesSchedule, ReportedSchedule, ReportedDefault, DueForRun, RefusesCalls, TakesCalls, DueForPlain, RefusesPlainCalls, RunsPlain, DueForTexts, RefusesClass, RefusesForm, RunsForm, RefusesPartial, RunsWhole, RunsAlong, ShowsGraph, DueForHistory, RefusesHistory, RunsHistory, DueForReplay, RefusesReplayCalls, TakesReplayCalls, AskFor, Due, NoCommand, UnreadableFile, LongFile, RequestAnswers, AreTold, NoFault, IsAnswer, WritesPrefix}
 use Rattle.sdg_top.specs.Read.{SaysWhy, NoRead, NoRoom, AreTexts}
 
 due_as : (words : List Text) (files : Told) (s s' : Status) (t t' : Text) → s' ≡ s → t' ≡ t → Due words files s t → Due words files s' t'
@@ -69,6 +69,8 @@ files_read content (Replay class calls history) reads texts (First n l text m r 
       are = refl;
       small = (was.within, (was2.within, (was3.within, tt)));
     }
+files_read content (Graph class) reads texts (First n l text m r c f ts are ends was Nothing) =
+    record { of = Graph text; alike = BothGraph class text; are = refl; small = (was.within, tt) }
 
 pub files_whole : (files : Told) (names : Request) (texts : List Text) → Reads files (files_of names) (AllRead texts) → AreTexts names texts
 files_whole files names texts reads = whole (AllRead texts) refl reads.are
@@ -172,6 +174,7 @@ texts_answer texts s t (RunsForm class_text calls_text schedule_text class answe
 texts_answer texts s t (RefusesPartial class_text calls_text class at accepts is) = inl refl
 texts_answer texts s t (RunsWhole class_text calls_text class answer text accepts whole d) = plain_answer class calls_text s t d
 texts_answer texts s t (RunsAlong class_text calls_text history_text class answer text accepts d) = replay_answer class calls_text history_text s t d
+texts_answer texts s t (ShowsGraph class_text class text accepts is) = inr (inr refl)
 
 no_read : (s : Status) → IsOfTexts s → s ≡ status.Read → ⊥
 no_read s (inl e) is = absurd cc

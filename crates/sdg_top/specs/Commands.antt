@@ -16,11 +16,14 @@ pub data Request : Type 0 where
   Plain : (class calls : Text) → Request
   -- calls run along a history
   Replay : (class calls history : Text) → Request
+  -- the graph of a class
+  Graph : (class : Text) → Request
 
 abbrev pub command_name : Request → Text
 command_name (Run class calls schedule) = codes "run"
 command_name (Plain class calls) = codes "plain"
 command_name (Replay class calls history) = codes "replay"
+command_name (Graph class) = codes "graph"
 
 -- its texts, in the order of the words
 abbrev pub texts_of : Request → List Text
@@ -28,6 +31,7 @@ texts_of (Run class calls None) = class ∷ calls ∷ []
 texts_of (Run class calls (Some schedule)) = class ∷ calls ∷ schedule ∷ []
 texts_of (Plain class calls) = class ∷ calls ∷ []
 texts_of (Replay class calls history) = class ∷ calls ∷ history ∷ []
+texts_of (Graph class) = class ∷ []
 
 -- ---- words
 
@@ -48,6 +52,7 @@ abbrev pub request_of : Command → Request
 request_of (command.Run class calls schedule) = Run (string_bytes class.now) (string_bytes calls.now) (option_map string_bytes (option_copied schedule))
 request_of (command.Plain class calls) = Plain (string_bytes class.now) (string_bytes calls.now)
 request_of (command.Replay class calls history) = Replay (string_bytes class.now) (string_bytes calls.now) (string_bytes history.now)
+request_of (command.Graph class) = Graph (string_bytes class.now)
 
 -- ---- files
 
@@ -65,6 +70,7 @@ files_of (Run class calls None) = (class, class_limit) ∷ (calls, other_limit) 
 files_of (Run class calls (Some schedule)) = (class, class_limit) ∷ (calls, other_limit) ∷ (schedule, other_limit) ∷ []
 files_of (Plain class calls) = (class, class_limit) ∷ (calls, other_limit) ∷ []
 files_of (Replay class calls history) = (class, class_limit) ∷ (calls, other_limit) ∷ (history, other_limit) ∷ []
+files_of (Graph class) = (class, class_limit) ∷ []
 
 -- The same command with as many files: one has their names, and the other what they hold.
 pub data AreAlike : Request → Request → Type 0 where
@@ -72,3 +78,4 @@ pub data AreAlike : Request → Request → Type 0 where
   BothRunScheduled : (class calls schedule class' calls' schedule' : Text) → AreAlike (Run class calls (Some schedule)) (Run class' calls' (Some schedule'))
   BothPlain : (class calls class' calls' : Text) → AreAlike (Plain class calls) (Plain class' calls')
   BothReplay : (class calls history class' calls' history' : Text) → AreAlike (Replay class calls history) (Replay class' calls' history')
+  BothGraph : (class class' : Text) → AreAlike (Graph class) (Graph class')

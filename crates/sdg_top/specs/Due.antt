@@ -24,11 +24,12 @@ use Rattle.sdg_keep.specs.Endings.{Ending, AllRead, Unreadable, TooLong, Told, R
 use Rattle.sdg_top.specs.declared.lines.InputText.TheVariants.{Calls, Schedule, History}
 use Rattle.sdg_top.specs.declared.status.Status.{Status}
 use Rattle.sdg_top.specs.declared.status.Status.TheVariants as status
-use Rattle.sdg_top.specs.Commands.{Text, Request, Run, Plain, Replay, Ask, AskForNothing, AreAlike, files_of, texts_of, other_limit}
+use Rattle.sdg_top.specs.Commands.{Text, Request, Run, Plain, Replay, Graph, Ask, AskForNothing, AreAlike, files_of, texts_of, other_limit}
 use Rattle.sdg_top.specs.Entrances.{entrances_of, fields_of}
 use Rattle.sdg_top.specs.Answers.{usage_line, class_refused_line, text_refused_line, unreadable_line, too_long_line}
 use Rattle.sdg_top.specs.Accepted.{IsClassText, IsAccepted, Accepts, IsRefused, typed_of, program_of, IsReport}
 use Rattle.sdg_top.specs.Replies.{plain_text, replay_text}
+use Rattle.sdg_top.specs.Graphs.{IsGraphText}
 
 -- a third file's text within the limit, if there is one
 abbrev pub IsShort : Option Text → Type 0
@@ -77,6 +78,7 @@ abbrev pub class_text_of : Request → Text
 class_text_of (Run class_text calls_text schedule_text) = class_text
 class_text_of (Plain class_text calls_text) = class_text
 class_text_of (Replay class_text calls_text history_text) = class_text
+class_text_of (Graph class_text) = class_text
 
 pub data DueForTexts : Request → Status → Text → Type 0 where
   -- the class is refused by this phase at this place
@@ -94,6 +96,7 @@ pub data DueForTexts : Request → Status → Text → Type 0 where
       → DueForTexts (Plain class_text calls_text) answer text
   RunsAlong : (class_text calls_text history_text : Text) (class : Class) (answer : Status) (text : Text) → Accepts class_text class → DueForReplay class calls_text history_text answer text
       → DueForTexts (Replay class_text calls_text history_text) answer text
+  ShowsGraph : (class_text : Text) (class : Class) (text : Text) → Accepts class_text class → IsGraphText class text → DueForTexts (Graph class_text) status.Done text
 
 -- ---- which files words name
 
@@ -167,10 +170,17 @@ pub record AreValidForReplay (class_text calls_text history_text : Text) : Type 
   pub replayed : Replayed
   pub is_replayed : IsReplayed (program_of class) calls (fields_of class) (lines history_text) replayed
 
+-- the text of an accepted class
+pub record AreValidForGraph (class_text : Text) : Type 0 where
+  pub class : Class
+  pub is_class : IsClassText class_text class
+  pub accepted : IsAccepted class
+
 abbrev pub AreValid : Request → Type 0
 AreValid (Run class_text calls_text schedule_text) = AreValidForRun class_text calls_text schedule_text
 AreValid (Plain class_text calls_text) = AreValidForPlain class_text calls_text
 AreValid (Replay class_text calls_text history_text) = AreValidForReplay class_text calls_text history_text
+AreValid (Graph class_text) = AreValidForGraph class_text
 
 -- the contents of the files are told, within their limits
 abbrev pub AreTold : (Text → Option Text) → List (Text × ℕ) → List Text → Type 0

@@ -10,3 +10,4 @@ pub mod Read
 pub mod Replies
 pub mod Report
 pub mod Texts
+pub mod Graphs

@@ -6,12 +6,13 @@ ghost use Rattle.java_tree.specs.declared.tree.Class.{Class as ClassOf};
 ghost use Rattle.sdg_top.specs.Accepted.{Accepts, annotated_of};
 ghost use Rattle.sdg_top.specs.Acceptance.{phase_text};
 ghost use Rattle.sdg_top.specs.Answers.{class_refused_line, text_refused_line};
-ghost use Rattle.sdg_top.specs.Commands.{Text, Run, Plain, Replay};
+ghost use Rattle.sdg_top.specs.Commands.{Text, Run, Plain, Replay, Graph};
 ghost use Rattle.sdg_top.specs.Due.{DueForTexts, AreValid, IsShort};
 
 use crate::accept::{FIRST, Judgement, Phase, judge};
 use crate::called::{form_of, let_go, resolved};
 use crate::lines::{InputText, class_refused, text_refused};
+use crate::graph::answer_graph;
 use crate::plain::answer_plain;
 use crate::replay::answer_replay;
 use crate::scheduled::answer_run;
@@ -173,6 +174,18 @@ pub(crate) fn replay_texts(
         Judgement::Takes(annotated) => {
             answer_for_replay(alloc, annotated, calls_text, history_text)
         }
+        Judgement::Refuses(phase, at) => refuse(alloc, phase, at),
+    }
+}
+
+/// What the text of a class is due under `graph`.
+pub(crate) fn graph_texts(alloc: Global, class_text: &[u8]) -> Result<Answer, AllocError>
+    requires class_size { length class_text.now ≤ 1048576 }
+    ensures due { IfOk result (λ a. DueForTexts (Graph class_text.now) a.status a.text) }
+    ensures complete { AreValid (Graph class_text.now) → IfOk result (λ a. a.status ≡ Status.Done) }
+{
+    match judge(alloc, class_text)? {
+        Judgement::Takes(annotated) => answer_graph(alloc, annotated),
         Judgement::Refuses(phase, at) => refuse(alloc, phase, at),
     }
 }

@@ -24,6 +24,8 @@ pub(crate) enum Command<'a> {
         calls: &'a String,
         history: &'a String,
     },
+    /// The graph of a class.
+    Graph { class: &'a String },
 }
 
 /// Whether a word is this name.
@@ -31,6 +33,18 @@ fn is_named(word: &String, name: &str) -> bool
     ensures { IsTrue result ↔ (string_bytes word.now ≡ name.now) }
 {
     word.as_str() == name
+}
+
+/// The command of two words.
+fn of_two<'a>(name: &String, class: &'a String) -> Option<Command<'a>>
+    ensures { MatchOption result (AskForNothing (string_bytes name.now ∷ string_bytes class.now ∷ []))
+        (λ command. Ask (string_bytes name.now ∷ string_bytes class.now ∷ []) (request_of command)) }
+{
+    if is_named(name, "graph") {
+        Some(Command::Graph { class })
+    } else {
+        None
+    }
 }
 
 /// The command of three words.
@@ -78,12 +92,13 @@ fn of_four<'a>(
     }
 }
 
-/// The command that the words are: `run CLASS CALLS`, `run CLASS CALLS SCHEDULE`, `plain CLASS CALLS` or
-/// `replay CLASS CALLS HISTORY`.
+/// The command that the words are: `run CLASS CALLS`, `run CLASS CALLS SCHEDULE`, `plain CLASS CALLS`,
+/// `replay CLASS CALLS HISTORY` or `graph CLASS`.
 pub(crate) fn command_in(words: &[String]) -> Option<Command<'_>>
     ensures { MatchOption result (AskForNothing (map string_bytes words.now)) (λ command. Ask (map string_bytes words.now) (request_of command)) }
 {
     match words {
+        [name, class] => of_two(name, class),
         [name, class, calls] => of_three(name, class, calls),
         [name, class, calls, third] => of_four(name, class, calls, third),
         _ => None,

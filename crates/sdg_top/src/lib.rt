@@ -5,6 +5,7 @@ mod accept;
 mod answer;
 mod called;
 mod command;
+mod graph;
 mod lines;
 mod machine;
 mod plain;

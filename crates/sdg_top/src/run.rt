@@ -9,7 +9,7 @@ ghost use Rattle.sdg_top.specs.Commands.{Text, Request, Ask, AreAlike, request_o
 ghost use Rattle.sdg_top.specs.Due.{Due, DueForTexts, ReadsAsked, IsAnswer, WritesPrefix, AreTold, AreValid, IsValid, NoFault};
 ghost use Rattle.sdg_top.specs.Read.{SaysWhy, AreTexts};
 
-use crate::answer::{Answer, plain_texts, replay_texts, run_texts};
+use crate::answer::{Answer, graph_texts, plain_texts, replay_texts, run_texts};
 use crate::command::{Command, command_in};
 use crate::lines::{too_long, unreadable, usage};
 use crate::status::Status;
@@ -34,14 +34,23 @@ fn asked_file(alloc: Global, name: &String, limit: u64) -> Result<Asked, AllocEr
     })
 }
 
+/// The file of a command on a class.
+fn class_file(alloc: Global, class: &String) -> Result<Vec<Asked>, AllocError>
+    ensures files { IfOk result (λ asked. map file_asked asked.items ≡ (string_bytes class.now, class_limit) ∷ []) }
+    ensures low { IfOk result (λ asked. All (λ file. file.limit ≤ 16777216) asked.items) }
+{
+    let mut asked = Vec::new(alloc);
+    asked.push(asked_file(alloc, class, CLASS_LIMIT)?)?;
+    Ok(asked)
+}
+
 /// The files of a command on a class and calls.
 fn two_files(alloc: Global, class: &String, calls: &String) -> Result<Vec<Asked>, AllocError>
     ensures files { IfOk result (λ asked. map file_asked asked.items
         ≡ (string_bytes class.now, class_limit) ∷ (string_bytes calls.now, other_limit) ∷ []) }
     ensures low { IfOk result (λ asked. All (λ file. file.limit ≤ 16777216) asked.items) }
 {
-    let mut asked = Vec::new(alloc);
-    asked.push(asked_file(alloc, class, CLASS_LIMIT)?)?;
+    let mut asked = class_file(alloc, class)?;
     asked.push(asked_file(alloc, calls, OTHER_LIMIT)?)?;
     Ok(asked)
 }
@@ -84,6 +93,7 @@ fn asked_files(alloc: Global, command: &Command<'_>) -> Result<Vec<Asked>, Alloc
             calls,
             history,
         } => three_files(alloc, class, calls, history),
+        Command::Graph { class } => class_file(alloc, class),
     }
 }
 
@@ -104,6 +114,20 @@ fn answer_unread(alloc: Global, error: &FilesError) -> Result<Answer, AllocError
     }
 }
 
+/// What the text of a command's one file is due.
+fn answer_one(alloc: Global, command: &Command<'_>, class: &[u8]) -> Result<Answer, AllocError>
+    requires { AreTexts (request_of command.now) (class.now ∷ []) }
+    ensures due { (texts : Request) → AreAlike (request_of command.now) texts → class.now ∷ [] ≡ texts_of texts
+        → IfOk result (λ a. DueForTexts texts a.status a.text) }
+    ensures complete { (texts : Request) → AreAlike (request_of command.now) texts → class.now ∷ [] ≡ texts_of texts
+        → AreValid texts → IfOk result (λ a. a.status ≡ Status.Done) }
+{
+    match *command {
+        Command::Graph { .. } => graph_texts(alloc, class),
+        Command::Run { .. } | Command::Plain { .. } | Command::Replay { .. } => unreachable!(),
+    }
+}
+
 /// What the two texts of a command's files are due.
 fn answer_two(
     alloc: Global,
@@ -120,7 +144,7 @@ fn answer_two(
     match *command {
         Command::Run { .. } => run_texts(alloc, class, calls, None),
         Command::Plain { .. } => plain_texts(alloc, class, calls),
-        Command::Replay { .. } => unreachable!(),
+        Command::Replay { .. } | Command::Graph { .. } => unreachable!(),
     }
 }
 
@@ -140,7 +164,7 @@ fn answer_three(
 {
     match *command {
         Command::Run { .. } => run_texts(alloc, class, calls, Some(third)),
-        Command::Plain { .. } => unreachable!(),
+        Command::Plain { .. } | Command::Graph { .. } => unreachable!(),
         Command::Replay { .. } => replay_texts(alloc, class, calls, third),
     }
 }
@@ -154,6 +178,7 @@ fn answer_read(alloc: Global, command: &Command<'_>, texts: &[Bytes]) -> Result<
         → AreValid of → IfOk result (λ a. a.status ≡ Status.Done) }
 {
     match texts {
+        [class] => answer_one(alloc, command, class.as_slice()),
         [class, calls] => answer_two(alloc, command, class.as_slice(), calls.as_slice()),
         [class, calls, third] => answer_three(
             alloc,
@@ -222,8 +247,8 @@ fn say<S: Sink>(out: &mut S, answer: &Answer) -> Status
 
 /// Runs the program on its words, which leave out the program's name, over files and an output.
 ///
-/// The commands today are `run CLASS CALLS`, `run CLASS CALLS SCHEDULE`, `plain CLASS CALLS` and
-/// `replay CLASS CALLS HISTORY`.
+/// The commands today are `run CLASS CALLS`, `run CLASS CALLS SCHEDULE`, `plain CLASS CALLS`,
+/// `replay CLASS CALLS HISTORY` and `graph CLASS`.
 pub fn java2sdg<F: Files, S: Sink>(
     alloc: Global,
     words: &[String],
@@ -233,8 +258,8 @@ pub fn java2sdg<F: Files, S: Sink>(
     // An answer is the one that is due, and all of its text is written and nothing else. For `Done`
     // `run` gives the report of the world that the schedule fixes: one result for each call, those of
     // the annotated source stepped in the history's order, and of plain Java where calls do not
-    // interleave; `plain` gives how each call ends in plain Java; and `replay` gives how calls end in
-    // the annotated source stepped along the history.
+    // interleave; `plain` gives how each call ends in plain Java; `replay` gives how calls end in the
+    // annotated source stepped along the history; and `graph` gives the graph of the class.
     ensures answers { IsAnswer result → (text : List ℕ)
         × Due (map string_bytes words.now) (told F.content F.faults F.reads files.old files.new) result text
         × Appends (S.written out.old) (S.written out.new) text }
