@@ -3,8 +3,10 @@
 #![tactic(auto)]
 
 mod front;
+mod graphs;
 mod groups;
 mod lines;
+mod listing;
 mod runs;
 mod said;
 mod texts;

@@ -56,6 +56,14 @@ fn last_line(bytes: &[u8]) -> &[u8] {
     lines.rsplit(|byte| *byte == b'\n').next().unwrap_or(lines)
 }
 
+/// What these words write.
+pub(crate) fn written(alloc: Global, files: &[Named], words: &str) -> Result<String, AllocError> {
+    let mut memory = MemoryFiles::new(alloc, list_of(alloc, files)?, Fails::new(alloc));
+    let mut out = MemorySink::new(alloc, Fails::new(alloc));
+    java2sdg(alloc, &words_of(alloc, words)?, &mut memory, &mut out);
+    String::from_utf8_lossy(alloc, out.written.as_slice())
+}
+
 /// The status with which these words end, and all that is written, or the last line of it.
 pub(crate) fn run(
     alloc: Global,

@@ -1,7 +1,9 @@
 //! What is said of a row, by its kind.
 
 use crate::front;
+use crate::graphs::read;
 use crate::lines::{calls, events, schedule};
+use crate::listing::code;
 use crate::runs::{Named, run};
 use std::alloc::{AllocError, Global};
 
@@ -11,6 +13,8 @@ pub(crate) fn said(alloc: Global, files: &[Named], row: &str) -> Result<String, 
     match kind {
         "java2sdg" => run(alloc, files, text, true),
         "ending" => run(alloc, files, text, false),
+        "code" => code(alloc, text),
+        "read" => read(alloc, text),
         "calls" => calls(alloc, text),
         "schedule" => schedule(alloc, text),
         "events" => events(alloc, text),
