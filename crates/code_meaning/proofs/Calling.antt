@@ -108,6 +108,7 @@ in_range v a (suc n) l h = let z : v < a + 1 + n = omega arith in by (nat_eq v a
   where
     more : v ≢ a → a + 1 ≤ v
     more other = omega arith
+
     by : (b : Bool) → nat_eq v a ≡ b → (a + 1 ≤ v → is_in v (range_with_len (a + 1) n) ≡ true) → (b || is_in v (range_with_len (a + 1) n)) ≡ true
     by true is rest = refl
     by false is rest = rest (more (λ e. false≢true (sym is ∙ eq-eqb v a e)))
@@ -125,6 +126,7 @@ unseen_behind v n is = by (le_or n v)
   where
     le_or : (a b : ℕ) → (a ≤ b) ⊎ (b < a)
     le_or a b = grind arith
+
     by : (n ≤ v) ⊎ (v < n) → n ≤ v
     by (inl l) = l
     by (inr l) = absurd (false≢true (sym is ∙ in_range v 0 n (omega arith) (omega arith)))
@@ -211,13 +213,15 @@ module _ (holders : List Holder) (methods : List Callee) (graph : List GraphFiel
   starts [] h = tt
   starts (v ∷ vs) h =
       let k = in_there (members_of b.kind b.variables) b.variables v h.0.typed.type h.0.typed.is in
-      let behind : b.arity ≤ v = unseen_behind v b.arity h.0.unseen in
-      (record {
-        type = k.0;
-        is_variable = h.0.typed.is ∙ ap Some (sym k.2);
-        in_body = k.1;
-        is_there = append_behind args (map start_value (drop b.arity b.variables)) b.arity v as_many behind ∙ dropped_get start_value b.variables b.arity v k.0 k.1 behind;
-      }, starts vs h.1)
+      let behind : b.arity ≤ v = unseen_behind v b.arity h.0.unseen in (
+        record {
+          type = k.0;
+          is_variable = h.0.typed.is ∙ ap Some (sym k.2);
+          in_body = k.1;
+          is_there = append_behind args (map start_value (drop b.arity b.variables)) b.arity v as_many behind ∙ dropped_get start_value b.variables b.arity v k.0 k.1 behind;
+        },
+        starts vs h.1,
+      )
 
   early_starts : AllByRecursion (StartsThere (in_method graph graph_codes flat gathered) gm.code (context_of methods b) there) (early b)
   early_starts =
@@ -322,7 +326,7 @@ module _ (holders : List Holder) (methods : List Callee) (graph : List GraphFiel
       let is = may refl in
       let e : length (started b) + piece_size + 1 ≡ whole = omega arith in
       let q : EndsSo g.setting gm.code (length (started b) + (piece_size + 1)) (frame 0 [] before turns) no_state (Returned val.Unit) (frame (length (started b) + piece_size) [] h.does.variables n.turns) h.does.next =
-          ends_on g.setting gm.code start_leads (ends_on g.setting gm.code h.does.leads (one_end g.setting gm.code instr.ReturnVoid (void_end is) refl)) in
+      ends_on g.setting gm.code start_leads (ends_on g.setting gm.code h.does.leads (one_end g.setting gm.code instr.ReturnVoid (void_end is) refl)) in
       (runs q, sym (typed.returns is), h.does.leads.falls)
   gives n Breaks h may = absurd (none_some h.does.need h.does.in_loop)
   gives n Continues h may = absurd (none_some h.does.need h.does.in_loop)
@@ -441,6 +445,7 @@ module _ (class : Class) (program : Program) (typed : IsTyped class program) whe
                 (helper_members b.kind b.variables [] is) turns less;
           } in
           subst (λ c. HelperAgrees n c gms calls flat most) z.4 one
+
       merge : (n : ℕ) (k : Callee) (t : ValueType) (gathered : List Val) (turns : ℕ) → (m : Method) × (b : Body) × (slice_get ms n ≡ Some m) × (slice_get program.methods n ≡ Some b) × (callee m b ≡ k) → k.kind ≡ Merge → k.params ≡ t ∷ [] → AreOf t gathered → turns < most
           → CallAgrees k.result turns (calls n (val.Unit ∷ []) gathered (suc turns)) (flat n (val.Unit ∷ []) gathered turns)
       merge n k t gathered turns z kind takes are less =

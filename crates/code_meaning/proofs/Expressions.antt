@@ -46,7 +46,6 @@ use Rattle.code_meaning.proofs.Evaluations.{onward, wide, arrives, operand_then,
 use Rattle.code_meaning.proofs.Sizes.{followed_sized, behind_sized, code_sized, type_beside}
 use Rattle.code_meaning.proofs.Operands.{on_stack, a_value_is, variable_has_value, unary_values, plus_same, plus_type, AreTaken, binary_taken, condition_taken, operated_is, pushed_all, arguments_are}
 
-
 -- ---- casts
 
 cast_of_number : (to : Num) (r t : ValueType) → cast_type to (Some r) ≡ Some t → IsValue r × IsValue t
@@ -84,9 +83,10 @@ in_second false b is = is
 pub meets_both : (c : Context) (s : Setting) (here : List Val) (seen : Seen) (a b : Needs) → Meets c s here seen (both a b) → Meets c s here seen a × Meets c s here seen b
 meets_both c s here seen a b h =
     let variables = all_parts (HasSame c here seen.variables) a.variables b.variables h.variables in
-    let merges = all_parts (MergesThese c seen.gathered) a.merges b.merges h.merges in
-    (record { variables = variables.0; merges = merges.0; key = λ is. h.key (in_first a.key b.key is) },
-    record { variables = variables.1; merges = merges.1; key = λ is. h.key (in_second a.key b.key is) })
+    let merges = all_parts (MergesThese c seen.gathered) a.merges b.merges h.merges in (
+      record { variables = variables.0; merges = merges.0; key = λ is. h.key (in_first a.key b.key is) },
+      record { variables = variables.1; merges = merges.1; key = λ is. h.key (in_second a.key b.key is) },
+    )
 
 -- ---- several values
 
@@ -261,6 +261,7 @@ module _ (c : Context) (calls : Calls) (s : Setting) (code : List Instr) (most :
           go : (z : Bool) → same_type r u ≡ z → cond z (Some r) None ≡ Some t → (r ≡ t) × (u ≡ t)
           go true e h = (some_is r t h, sym (same_is r u e) ∙ some_is r t h)
           go false e h = absurd (none_some t h)
+
       by : (r : ValueType) × (u : ValueType) × (a ≡ Some r) × (b ≡ Some u) × (alike r u ≡ Some t) → (Some type.Boolean ≡ Some type.Boolean) × (a ≡ Some t) × (b ≡ Some t)
       by k = let z = same_both k.0 k.1 k.4 in (refl, k.2 ∙ ap Some z.0, k.3 ∙ ap Some z.1)
   conditional_type (Some type.Int) a b t is = absurd (none_some t is)
@@ -388,21 +389,26 @@ module _ (c : Context) (calls : Calls) (s : Setting) (code : List Instr) (most :
     where
       j : Val
       j = val.Int (pos m)
+
       here : Frame
       here = frame at (val.Int (pos m) ∷ stack) variables left
+
       does : perform_on s (instr.CollectionCheck 0) (val.Int (pos m) ∷ stack) (frame at (val.Int (pos m) ∷ stack) variables left)
           ≡ machine.with_found (slice_get seen.gathered m) (machine.member_checked (val.Int (pos m)) stack (frame at (val.Int (pos m) ∷ stack) variables left)) (frame at (val.Int (pos m) ∷ stack) variables left)
       does = ap (λ vs. machine.with_member vs (val.Int (pos m)) (machine.member_checked (val.Int (pos m)) stack (frame at (val.Int (pos m) ∷ stack) variables left)) (frame at (val.Int (pos m) ∷ stack) variables left)) same.same
+
       by : (o : Option Val) → slice_get seen.gathered m ≡ o
           → Evaluates s code (1 + (b.size + 1)) (frame at (val.Int (pos m) ∷ stack) variables left) state (at + 1 + b.size + 1) stack variables type.Long (followed (found (λ v. v) o left) (λ v rest. followed (vb seen rest) (element_of v)))
-      by None there = record { does = stops_wider s code (omega arith) (one_stop s code (instr.CollectionCheck 0) check
-          (does ∙ ap (λ o. machine.with_found o (machine.member_checked (val.Int (pos m)) stack (frame at (val.Int (pos m) ∷ stack) variables left)) (frame at (val.Int (pos m) ∷ stack) variables left)) there)) }
+      by None there = record {
+        does = stops_wider s code (omega arith) (one_stop s code (instr.CollectionCheck 0) check
+            (does ∙ ap (λ o. machine.with_found o (machine.member_checked (val.Int (pos m)) stack (frame at (val.Int (pos m) ∷ stack) variables left)) (frame at (val.Int (pos m) ∷ stack) variables left)) there));
+      }
       by (Some v) there =
           let e : suc at ≡ at + 1 = omega arith in
           let checked : perform_on s (instr.CollectionCheck 0) (val.Int (pos m) ∷ stack) (frame at (val.Int (pos m) ∷ stack) variables left) ≡ Some (Goes (frame (suc at) (val.Int (pos m) ∷ stack) variables left)) =
-              does ∙ ap (λ o. machine.with_found o (machine.member_checked (val.Int (pos m)) stack (frame at (val.Int (pos m) ∷ stack) variables left)) (frame at (val.Int (pos m) ∷ stack) variables left)) there in
+          does ∙ ap (λ o. machine.with_found o (machine.member_checked (val.Int (pos m)) stack (frame at (val.Int (pos m) ∷ stack) variables left)) (frame at (val.Int (pos m) ∷ stack) variables left)) there in
           let test : Leads s code 1 (frame at (val.Int (pos m) ∷ stack) variables left) state (frame (at + 1) (val.Int (pos m) ∷ stack) variables left) state =
-              leads_to s code e (one_step s code (instr.CollectionCheck 0) check checked (omega arith)) in
+          leads_to s code e (one_step s code (instr.CollectionCheck 0) check checked (omega arith)) in
           onward s code variables state (followed (vb seen left) (element_of v)) test
           (operand_then s code variables state (vb seen left) (element_of v) tt (rb type.Int (at + 1) left (val.Int (pos m) ∷ stack) state ib meets laid less) (λ w rest hw l.
           takes_element s code variables state (instr.CollectionGet 0) v w (at + 1 + b.size) rest (w ∷ val.Int (pos m) ∷ stack) stack (vectors m v there) hw get
@@ -472,6 +478,7 @@ module _ (c : Context) (calls : Calls) (s : Setting) (code : List Instr) (most :
       types : (b : Bool) → same_types args m.params ≡ b → m.kind ≡ Helper → cond b (Some m.result) None ≡ Some t → (callee : Callee) × (Some m ≡ Some callee) × (callee.kind ≡ Helper) × (Some args ≡ Some callee.params) × (callee.result ≡ t)
       types true e h is = (m, refl, h, ap Some (same_are args m.params e), some_is m.result t is)
       types false e h is = absurd (none_some t is)
+
       by : (k : MethodKind) → m.kind ≡ k → called_by k m.params m.result args ≡ Some t → (callee : Callee) × (Some m ≡ Some callee) × (callee.kind ≡ Helper) × (Some args ≡ Some callee.params) × (callee.result ≡ t)
       by Helper h is = types (same_types args m.params) refl h is
       by Entry h is = absurd (none_some t is)
@@ -596,7 +603,7 @@ module _ (c : Context) (calls : Calls) (s : Setting) (code : List Instr) (most :
       let l = fold-roll-Expression Lowered (lowered_step c) x in
       let v = fold-roll-Expression Meaning (expression_step calls) x in
       let whole : Right (type_of c (roll-Expression x)) (needs (roll-Expression x)) (code_of c (roll-Expression x)) (value_of calls (roll-Expression x)) ≡ LayerRight x =
-          λ i. Right (o i) (n i) (l i).code (v i) in
+      λ i. Right (o i) (n i) (l i).code (v i) in
       transport (sym whole) (subst LayerRight is (layer_right y))
 
   pub expression_right : (x : Expression) → IsRight x

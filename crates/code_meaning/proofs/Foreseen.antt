@@ -235,8 +235,8 @@ module _ (around : Surroundings) (calls : Calls) where
     passes_fit zero m = tt
     passes_fit (suc most) m =
         let turn : (n : Machine) → Foresees whole (spent n (λ left. after_body (body_runs left) (λ o. after (update_runs o) (passes calls test update_runs body_runs most)))) =
-            λ n. spends whole n.turns n (λ left. after_body (body_runs left) (λ o. after (update_runs o) (passes calls test update_runs body_runs most)))
-            (λ left. body_after (body_runs left) (λ o. after (update_runs o) (passes calls test update_runs body_runs most)) (body_fits left) (update_after (passes calls test update_runs body_runs most) (passes_fit most))) in
+        λ n. spends whole n.turns n (λ left. after_body (body_runs left) (λ o. after (update_runs o) (passes calls test update_runs body_runs most)))
+        (λ left. body_after (body_runs left) (λ o. after (update_runs o) (passes calls test update_runs body_runs most)) (body_fits left) (update_after (passes calls test update_runs body_runs most) (passes_fit most))) in
         condition_goes whole test m (λ holds n. if is_true holds then spent n (λ left. after_body (body_runs left) (λ o. after (update_runs o) (passes calls test update_runs body_runs most))) else normal n) turn
         (λ v n stops. each_bool (λ b. Foresees whole (if b then spent n (λ left. after_body (body_runs left) (λ o. after (update_runs o) (passes calls test update_runs body_runs most))) else normal n)) (turn n)
         (or_first (not (goes_on test)) body.breaks (ap not stops)) (is_true v))
@@ -312,9 +312,10 @@ module _ (around : Surroundings) (calls : Calls) where
   none_runs (x ∷ xs) is m = absurd (cc)
 
   more_right : (x : Statement) (xs : List Statement) → Keeps (checked around x) × Fits (checked around x) (leaving_of x) (meaning calls x) → ListRight xs → ListRight (x ∷ xs)
-  more_right x xs h hs =
-      ((λ loop st end is out. let k = next_is (checked_list around xs loop) (checked around x loop st) end is in hs.0 loop k.0 end k.2 (h.0 loop st k.0 k.1 out)),
-      list_more (checked around x) (checked_list around xs) (leaving_of x) (map leaving_of xs) (meaning calls x) (meanings calls xs) (none_runs xs) h.0 h.1 hs.1)
+  more_right x xs h hs = (
+    (λ loop st end is out. let k = next_is (checked_list around xs loop) (checked around x loop st) end is in hs.0 loop k.0 end k.2 (h.0 loop st k.0 k.1 out)),
+    list_more (checked around x) (checked_list around xs) (leaving_of x) (map leaving_of xs) (meaning calls x) (meanings calls xs) (none_runs xs) h.0 h.1 hs.1,
+  )
 
   no_more : ListRight []
   no_more = ((λ loop st end is out. same_keeps st end (some_is st end is) out), (λ loop st end is out m. refl))
@@ -326,53 +327,61 @@ module _ (around : Surroundings) (calls : Calls) where
       more_right x.0 (map (λ (y : Part). y.0) xs) (x.1 k.0) (list_right xs k.1)
 
   layer_right : (y : Statement-F Part) → LayerRight (bare y)
-  layer_right (s.Assign v x) plain =
-      ((λ loop st end is out. assigned_keeps v (type_of around.context x) (checking.are_met around st (needs x)) st end is out),
-      (λ loop st end is out m. valued (leaving true false) (value_of calls x (seen_by m) m.turns) m (λ value n. normal (with_variable v value n)) (λ value n. refl)))
-  layer_right (s.SetElement v at x) plain =
-      ((λ loop st end is out. if_keeps _ st end is out),
-      (λ loop st end is out m. valued (leaving true false) (value_of calls at (seen_by m) m.turns) m (λ i n. evaluated calls x n (λ value o. element_set v (with_element (variable_in o v) i value) o)) (λ i n.
-      valued (leaving true false) (value_of calls x (seen_by n) n.turns) n (λ value o. element_set v (with_element (variable_in o v) i value) o) (λ value o. sets (with_element (variable_in o v) i value) v o))))
-  layer_right (s.Evaluate x) plain =
-      ((λ loop st end is out. if_keeps _ st end is out),
-      (λ loop st end is out m. valued (leaving true false) (value_of calls x (seen_by m) m.turns) m (λ value n. normal n) (λ value n. refl)))
-  layer_right (s.Access a) plain =
-      ((λ loop st end is out. absurd (no_access a (checking.signature_of around a.field a.method) st end is out)),
-      (λ loop st end is out m. absurd (no_access a (checking.signature_of around a.field a.method) st end is out)))
+  layer_right (s.Assign v x) plain = (
+    (λ loop st end is out. assigned_keeps v (type_of around.context x) (checking.are_met around st (needs x)) st end is out),
+    (λ loop st end is out m. valued (leaving true false) (value_of calls x (seen_by m) m.turns) m (λ value n. normal (with_variable v value n)) (λ value n. refl)),
+  )
+  layer_right (s.SetElement v at x) plain = (
+    (λ loop st end is out. if_keeps _ st end is out),
+    (λ loop st end is out m. valued (leaving true false) (value_of calls at (seen_by m) m.turns) m (λ i n. evaluated calls x n (λ value o. element_set v (with_element (variable_in o v) i value) o)) (λ i n.
+        valued (leaving true false) (value_of calls x (seen_by n) n.turns) n (λ value o. element_set v (with_element (variable_in o v) i value) o) (λ value o. sets (with_element (variable_in o v) i value) v o))),
+  )
+  layer_right (s.Evaluate x) plain = (
+    (λ loop st end is out. if_keeps _ st end is out),
+    (λ loop st end is out m. valued (leaving true false) (value_of calls x (seen_by m) m.turns) m (λ value n. normal n) (λ value n. refl)),
+  )
+  layer_right (s.Access a) plain = (
+    (λ loop st end is out. absurd (no_access a (checking.signature_of around a.field a.method) st end is out)),
+    (λ loop st end is out m. absurd (no_access a (checking.signature_of around a.field a.method) st end is out)),
+  )
   layer_right (s.Gather a) plain = absurd (false≢true plain)
   layer_right (s.Marked mark body) plain = absurd (false≢true plain)
-  layer_right (s.Opened body) plain =
-      ((λ loop st end is out. let k = opened_as st (checked around body.0 loop (outside st)) end is in same_keeps (outside st) end k.2 refl),
-      (λ loop st end is out m. let k = opened_as st (checked around body.0 loop (outside st)) end is in (body.1 plain).1 loop (outside st) k.0 k.1 refl m))
+  layer_right (s.Opened body) plain = (
+    (λ loop st end is out. let k = opened_as st (checked around body.0 loop (outside st)) end is in same_keeps (outside st) end k.2 refl),
+    (λ loop st end is out m. let k = opened_as st (checked around body.0 loop (outside st)) end is in (body.1 plain).1 loop (outside st) k.0 k.1 refl m),
+  )
   layer_right (s.Block items) plain =
       let xs = map (λ (x : Part). x.0) items in
-      let h = list_right items plain in
-      ((λ loop st end is out. let k = compound_is st (checked_list around xs loop st) end is in same_keeps (checking.after_compound st k.0) end k.2 (h.0 loop st k.0 k.1 out)),
-      (λ loop st end is out m. let k = compound_is st (checked_list around xs loop st) end is in h.1 loop st k.0 k.1 out m))
+      let h = list_right items plain in (
+        (λ loop st end is out. let k = compound_is st (checked_list around xs loop st) end is in same_keeps (checking.after_compound st k.0) end k.2 (h.0 loop st k.0 k.1 out)),
+        (λ loop st end is out m. let k = compound_is st (checked_list around xs loop st) end is in h.1 loop st k.0 k.1 out m),
+      )
   layer_right (s.If test first None) plain =
-      let h = first.1 (both_true (is_plain first.0) true plain).0 in
-      ((λ loop st end is out.
-      let l = met_is st (checked around first.0 loop st) (Some st) end (if_then (takes around st test type.Boolean) (met st (checked around first.0 loop st) (Some st)) end is).1 in
-      same_keeps (checking.meet st l.0 l.1) end l.4 (common_none (checking.same_number l.0.field l.1.field) l.0.field (h.0 loop st l.0 l.2 out))),
-      (λ loop st end is out m.
-      let l = met_is st (checked around first.0 loop st) (Some st) end (if_then (takes around st test type.Boolean) (met st (checked around first.0 loop st) (Some st)) end is).1 in
-      let both : Leaving = leaving true (leaving_of first.0).breaks in
-      valued both (value_of calls test (seen_by m) m.turns) m (λ holds n. if is_true holds then meaning calls first.0 n else normal n) (λ holds n.
-      each_bool (λ b. Foresees both (if b then meaning calls first.0 n else normal n)) (weaker (leaving_of first.0) both (meaning calls first.0 n).completion (λ z. refl) (λ z. z) (h.1 loop st l.0 l.2 out n)) refl (is_true holds))))
+      let h = first.1 (both_true (is_plain first.0) true plain).0 in (
+        (λ loop st end is out.
+            let l = met_is st (checked around first.0 loop st) (Some st) end (if_then (takes around st test type.Boolean) (met st (checked around first.0 loop st) (Some st)) end is).1 in
+            same_keeps (checking.meet st l.0 l.1) end l.4 (common_none (checking.same_number l.0.field l.1.field) l.0.field (h.0 loop st l.0 l.2 out))),
+        (λ loop st end is out m.
+            let l = met_is st (checked around first.0 loop st) (Some st) end (if_then (takes around st test type.Boolean) (met st (checked around first.0 loop st) (Some st)) end is).1 in
+            let both : Leaving = leaving true (leaving_of first.0).breaks in
+            valued both (value_of calls test (seen_by m) m.turns) m (λ holds n. if is_true holds then meaning calls first.0 n else normal n) (λ holds n.
+            each_bool (λ b. Foresees both (if b then meaning calls first.0 n else normal n)) (weaker (leaving_of first.0) both (meaning calls first.0 n).completion (λ z. refl) (λ z. z) (h.1 loop st l.0 l.2 out n)) refl (is_true holds))),
+      )
   layer_right (s.If test first (Some second)) plain =
       let k = both_true (is_plain first.0) (is_plain second.0) plain in
       let h = first.1 k.0 in
-      let h2 = second.1 k.1 in
-      ((λ loop st end is out.
-      let l = met_is st (checked around first.0 loop st) (checked around second.0 loop st) end (if_then (takes around st test type.Boolean) (met st (checked around first.0 loop st) (checked around second.0 loop st)) end is).1 in
-      same_keeps (checking.meet st l.0 l.1) end l.4 (common_none (checking.same_number l.0.field l.1.field) l.0.field (h.0 loop st l.0 l.2 out))),
-      (λ loop st end is out m.
-      let l = met_is st (checked around first.0 loop st) (checked around second.0 loop st) end (if_then (takes around st test type.Boolean) (met st (checked around first.0 loop st) (checked around second.0 loop st)) end is).1 in
-      let both : Leaving = of_second (leaving_of first.0) (Some (leaving_of second.0)) in
-      valued both (value_of calls test (seen_by m) m.turns) m (λ holds n. if is_true holds then meaning calls first.0 n else meaning calls second.0 n) (λ holds n.
-      each_bool (λ b. Foresees both (if b then meaning calls first.0 n else meaning calls second.0 n))
-      (weaker (leaving_of first.0) both (meaning calls first.0 n).completion (or_first (leaving_of first.0).completes (leaving_of second.0).completes) (or_first (leaving_of first.0).breaks (leaving_of second.0).breaks) (h.1 loop st l.0 l.2 out n))
-      (weaker (leaving_of second.0) both (meaning calls second.0 n).completion (or_second (leaving_of first.0).completes (leaving_of second.0).completes) (or_second (leaving_of first.0).breaks (leaving_of second.0).breaks) (h2.1 loop st l.1 l.3 out n)) (is_true holds))))
+      let h2 = second.1 k.1 in (
+        (λ loop st end is out.
+            let l = met_is st (checked around first.0 loop st) (checked around second.0 loop st) end (if_then (takes around st test type.Boolean) (met st (checked around first.0 loop st) (checked around second.0 loop st)) end is).1 in
+            same_keeps (checking.meet st l.0 l.1) end l.4 (common_none (checking.same_number l.0.field l.1.field) l.0.field (h.0 loop st l.0 l.2 out))),
+        (λ loop st end is out m.
+            let l = met_is st (checked around first.0 loop st) (checked around second.0 loop st) end (if_then (takes around st test type.Boolean) (met st (checked around first.0 loop st) (checked around second.0 loop st)) end is).1 in
+            let both : Leaving = of_second (leaving_of first.0) (Some (leaving_of second.0)) in
+            valued both (value_of calls test (seen_by m) m.turns) m (λ holds n. if is_true holds then meaning calls first.0 n else meaning calls second.0 n) (λ holds n.
+            each_bool (λ b. Foresees both (if b then meaning calls first.0 n else meaning calls second.0 n))
+            (weaker (leaving_of first.0) both (meaning calls first.0 n).completion (or_first (leaving_of first.0).completes (leaving_of second.0).completes) (or_first (leaving_of first.0).breaks (leaving_of second.0).breaks) (h.1 loop st l.0 l.2 out n))
+            (weaker (leaving_of second.0) both (meaning calls second.0 n).completion (or_second (leaving_of first.0).completes (leaving_of second.0).completes) (or_second (leaving_of first.0).breaks (leaving_of second.0).breaks) (h2.1 loop st l.1 l.3 out n)) (is_true holds))),
+      )
   layer_right (s.Loop start test update body) plain =
       let ss = map (λ (x : Part). x.0) start in
       let us = map (λ (x : Part). x.0) update in
@@ -380,20 +389,21 @@ module _ (around : Surroundings) (calls : Calls) where
       let l = both_true (is_plain body.0) (all_plain (map is_plain us)) k.1 in
       let hs = list_right start k.0 in
       let hu = list_right update l.1 in
-      let hb = body.1 l.0 in
-      ((λ loop st end is out.
-      let n = next_is (checking.passing around st test (map (checked around) us) (checked around body.0)) (checked_list around ss None st) end is in
-      let q = passing_is around st n.0 end test (checked_list around us) (checked around body.0) n.2 in
-      same_keeps (checking.after_compound st n.0) end q.2 (hs.0 None st n.0 n.1 out)),
-      (λ loop st end is out m.
-      let n = next_is (checking.passing around st test (map (checked around) us) (checked around body.0)) (checked_list around ss None st) end is in
-      let q = passing_is around st n.0 end test (checked_list around us) (checked around body.0) n.2 in
-      let inside = hs.0 None st n.0 n.1 out in
-      let whole : Leaving = leaving (not (goes_on test) || (leaving_of body.0).breaks) false in
-      after_one (of_list (map leaving_of ss)) whole whole (meanings calls ss m) (looped calls test (meanings calls us) (meaning calls body.0)) (hs.1 None st n.0 n.1 out m)
-      (λ z. absurd (false≢true (sym (list_unbroken around ss st n.0 n.1) ∙ z)))
-      (λ o. passes_fit test (leaving_of body.0) (meanings calls us) (meaning calls body.0) (of_list (map leaving_of us)) (list_unbroken around us n.0 q.1.0 q.1.1)
-      (λ r. hu.1 None n.0 q.1.0 q.1.1 inside r) (λ r. hb.1 (Some n.0) n.0 q.0.0 q.0.1 inside r) (suc o.turns) o)))
+      let hb = body.1 l.0 in (
+        (λ loop st end is out.
+            let n = next_is (checking.passing around st test (map (checked around) us) (checked around body.0)) (checked_list around ss None st) end is in
+            let q = passing_is around st n.0 end test (checked_list around us) (checked around body.0) n.2 in
+            same_keeps (checking.after_compound st n.0) end q.2 (hs.0 None st n.0 n.1 out)),
+        (λ loop st end is out m.
+            let n = next_is (checking.passing around st test (map (checked around) us) (checked around body.0)) (checked_list around ss None st) end is in
+            let q = passing_is around st n.0 end test (checked_list around us) (checked around body.0) n.2 in
+            let inside = hs.0 None st n.0 n.1 out in
+            let whole : Leaving = leaving (not (goes_on test) || (leaving_of body.0).breaks) false in
+            after_one (of_list (map leaving_of ss)) whole whole (meanings calls ss m) (looped calls test (meanings calls us) (meaning calls body.0)) (hs.1 None st n.0 n.1 out m)
+            (λ z. absurd (false≢true (sym (list_unbroken around ss st n.0 n.1) ∙ z)))
+            (λ o. passes_fit test (leaving_of body.0) (meanings calls us) (meaning calls body.0) (of_list (map leaving_of us)) (list_unbroken around us n.0 q.1.0 q.1.1)
+            (λ r. hu.1 None n.0 q.1.0 q.1.1 inside r) (λ r. hb.1 (Some n.0) n.0 q.0.0 q.0.1 inside r) (suc o.turns) o)),
+      )
   layer_right s.Break plain = ((λ loop st end is out. jumping_keeps loop st end is out), (λ loop st end is out m. refl))
   layer_right s.Continue plain = ((λ loop st end is out. jumping_keeps loop st end is out), (λ loop st end is out m. tt))
   layer_right (s.Return x) plain = ((λ loop st end is out. returning_keeps x st end is out), (λ loop st end is out m. returns_fit x m))

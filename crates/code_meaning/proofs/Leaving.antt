@@ -169,4 +169,3 @@ module _ (calls : Calls) where
   -- A constant expression gives its constant.
   pub constant_value : (x : Expression) → IsFixed x
   constant_value = ind-Expression IsFixed made_fixed
-

@@ -112,14 +112,17 @@ module _ {g : Ground} where
     where
       a : ℕ
       a = (code_of g.around.context x).size
+
       parts : IsLaid g.code p.at ((code_of g.around.context x).from p.at) × IsLaid g.code (p.at + (code_of g.around.context x).size) (instr.IfFalse inner.break_to ∷ [])
       parts = laid_two g.code p.at (code_of g.around.context x).size ((code_of g.around.context x).from p.at) (instr.IfFalse inner.break_to ∷ []) (code_sized g.around.context x p.at) laid
+
       holds_goes : (b : Bool) (left : ℕ) → left ≤ m.turns → Leads g.setting g.code (code_of g.around.context x).size (frame p.at [] variables m.turns) state (frame (p.at + (code_of g.around.context x).size) (val.Bool b ∷ []) variables left) state
           → Completes g loop exits n (frame p.at [] variables m.turns) state to end (k (val.Bool b) (with_turns left m))
       holds_goes true left less q =
           let e : suc (p.at + (code_of g.around.context x).size) ≡ p.at + ((code_of g.around.context x).size + 1) = omega arith in
           holding left less (leads_on g.setting g.code q (leads_to g.setting g.code e (one_step g.setting g.code (instr.IfFalse inner.break_to) parts.1.0 refl (omega arith))))
       holds_goes false left less q = failing left less (leads_on g.setting g.code q (one_step g.setting g.code (instr.IfFalse inner.break_to) parts.1.0 refl (omega arith)))
+
       by : (v : Ended Val) → Evaluates g.setting g.code (code_of g.around.context x).size (frame p.at [] variables m.turns) state (p.at + (code_of g.around.context x).size) [] variables type.Boolean v
           → Completes g loop exits n (frame p.at [] variables m.turns) state to end (with_value v m k)
       by (Gives v left) q =
@@ -221,12 +224,14 @@ module _ {g : Ground} (ground : IsGround g) (test : Option Expression) (us : Lis
       after_pass : (m : Machine) (c : Completion) → Completes g (Some st) inner body.size begun a p3.at stb (completed c m) → Comes f a (looping c m (λ o. after (update_runs o) more))
       after_pass m Normal h = to_update h.does.variables h.does.next m (agrees_below body_below h.does.agrees) h.does.leads
       after_pass m Continues h = continue_in us refl h.does.goes.variables h.does.goes.next m (need_is h.does.need h.does.in_loop h.does.goes.agrees) h.does.goes.leads
-      after_pass m Breaks h = record { does = record {
-        variables = h.does.goes.variables;
-        next = h.does.goes.next;
-        leads = wider g.setting g.code (omega arith) (leads_on g.setting g.code turn_first h.does.goes.leads);
-        agrees = need_is h.does.need h.does.in_loop h.does.goes.agrees;
-      } }
+      after_pass m Breaks h = record {
+        does = record {
+          variables = h.does.goes.variables;
+          next = h.does.goes.next;
+          leads = wider g.setting g.code (omega arith) (leads_on g.setting g.code turn_first h.does.goes.leads);
+          agrees = need_is h.does.need h.does.in_loop h.does.goes.agrees;
+        };
+      }
       after_pass m (Returns v) h = completes_wider (omega arith) (completes_on turn_first (record { does = h.does }))
       after_pass m (Halts z) h = completes_wider (omega arith) (completes_on turn_first (record { does = h.does }))
 

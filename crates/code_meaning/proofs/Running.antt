@@ -118,16 +118,22 @@ module _ (s : Setting) (code : List Instr) where
   pub one_refused : (i : Instr) (m : Method) (args : List Val) {f g : Frame} {state next : State} (how : Outcome) → slice_get code f.at ≡ Some i → perform_on s i f.stack f ≡ Some (Accesses m args g)
       → called m args state ≡ (how, next) → ((v : Val) → how ≡ outcome.Value v → ⊥) → Stops s code 1 f state how next
   one_refused i m args {f} {g} {state} {next} (outcome.Value v) is does answers other = absurd (other v refl)
-  one_refused i m args {f} {g} {state} {next} (outcome.Throws x) is does answers other = record { last = g; ends = record {
-    steps = 1;
-    same = λ n. performed n i f state (Some (Accesses m args g)) is does ∙ ap (after_access (run_within n s code) g) answers;
-    few = omega arith;
-  } }
-  one_refused i m args {f} {g} {state} {next} outcome.Limit is does answers other = record { last = g; ends = record {
-    steps = 1;
-    same = λ n. performed n i f state (Some (Accesses m args g)) is does ∙ ap (after_access (run_within n s code) g) answers;
-    few = omega arith;
-  } }
+  one_refused i m args {f} {g} {state} {next} (outcome.Throws x) is does answers other = record {
+    last = g;
+    ends = record {
+      steps = 1;
+      same = λ n. performed n i f state (Some (Accesses m args g)) is does ∙ ap (after_access (run_within n s code) g) answers;
+      few = omega arith;
+    };
+  }
+  one_refused i m args {f} {g} {state} {next} outcome.Limit is does answers other = record {
+    last = g;
+    ends = record {
+      steps = 1;
+      same = λ n. performed n i f state (Some (Accesses m args g)) is does ∙ ap (after_access (run_within n s code) g) answers;
+      few = omega arith;
+    };
+  }
 
   -- ---- runs one after the other
 

@@ -197,6 +197,7 @@ module _ {g : Ground} (ground : IsGround g) where
       by : (b c : Bool) → c ≡ true → (b || c) ≡ true
       by true c known = refl
       by false c known = known
+
       one_more : (w : ℕ) → is_in w st.known ≡ true → is_in w (v ∷ st.known) ≡ true
       one_more w known = by _ (is_in w st.known) known
 
@@ -208,9 +209,11 @@ module _ {g : Ground} (ground : IsGround g) where
     where
       f : Frame
       f = frame at (val.Long x ∷ val.Int (pos n) ∷ []) variables m.turns
+
       works : perform_on g.setting (instr.VectorSet v) (val.Long x ∷ val.Int (pos n) ∷ []) (frame at (val.Long x ∷ val.Int (pos n) ∷ []) variables m.turns)
           ≡ machine.set_at v longs (Some n) x [] (frame at (val.Long x ∷ val.Int (pos n) ∷ []) variables m.turns)
       works = ap (λ o. machine.element_set v (machine.a_value o) (val.Int (pos n)) (val.Long x) [] (frame at (val.Long x ∷ val.Int (pos n) ∷ []) variables m.turns)) here
+
       by : (b : Bool) → nat_lt n (length longs) ≡ b
           → Completes g loop exits 1 (frame at (val.Long x ∷ val.Int (pos n) ∷ []) variables m.turns) state (at + 1) st (element_set v (cond b (Some (val.Vector (slice_set longs n x))) None) m)
       by true less =
@@ -218,25 +221,31 @@ module _ {g : Ground} (ground : IsGround g) where
           let new : Val = val.Vector (slice_set longs n x) in
           let room : v < length variables = within v type.Vector is h in
           let step : perform_on g.setting (instr.VectorSet v) (val.Long x ∷ val.Int (pos n) ∷ []) (frame at (val.Long x ∷ val.Int (pos n) ∷ []) variables m.turns) ≡ Some (Goes (frame (suc at) [] (slice_set variables v (val.Vector (slice_set longs n x))) m.turns)) =
-              works ∙ ap (λ b. cond b (machine.stored v (val.Vector (slice_set longs n x)) [] (frame at (val.Long x ∷ val.Int (pos n) ∷ []) variables m.turns)) (machine.throws exn.Index (frame at (val.Long x ∷ val.Int (pos n) ∷ []) variables m.turns))) less
-              ∙ ap (λ b. cond b (Some (Goes (frame (suc at) [] (slice_set variables v (val.Vector (slice_set longs n x))) m.turns))) None) (lt-ltb v (length variables) room) in
-          completes_below (same_below v st) (record { does = record {
-            variables = slice_set variables v (val.Vector (slice_set longs n x));
-            next = state;
-            leads = leads_to g.setting g.code e (one_step g.setting g.code (instr.VectorSet v) there step (omega arith));
-            agrees = agrees_set ground v (val.Vector (slice_set longs n x)) type.Vector is refl h;
-          } })
-      by false less = record { does = record {
-        next = state;
-        stops = one_stop g.setting g.code (instr.VectorSet v) there
-            (works ∙ ap (λ b. cond b (machine.stored v (val.Vector (slice_set longs n x)) [] (frame at (val.Long x ∷ val.Int (pos n) ∷ []) variables m.turns)) (machine.throws exn.Index (frame at (val.Long x ∷ val.Int (pos n) ∷ []) variables m.turns))) less);
-        fields = h.fields;
-      } }
-  element_goes {st} {variables} {state} {m} v (val.Vector longs) (val.Int (negsuc n)) (val.Long x) at is hv hi hx here h there = record { does = record {
-    next = state;
-    stops = one_stop g.setting g.code (instr.VectorSet v) there (ap (λ o. machine.element_set v (machine.a_value o) (val.Int (negsuc n)) (val.Long x) [] (frame at (val.Long x ∷ val.Int (negsuc n) ∷ []) variables m.turns)) here);
-    fields = h.fields;
-  } }
+          works ∙ ap (λ b. cond b (machine.stored v (val.Vector (slice_set longs n x)) [] (frame at (val.Long x ∷ val.Int (pos n) ∷ []) variables m.turns)) (machine.throws exn.Index (frame at (val.Long x ∷ val.Int (pos n) ∷ []) variables m.turns))) less
+          ∙ ap (λ b. cond b (Some (Goes (frame (suc at) [] (slice_set variables v (val.Vector (slice_set longs n x))) m.turns))) None) (lt-ltb v (length variables) room) in
+          completes_below (same_below v st) (record {
+            does = record {
+              variables = slice_set variables v (val.Vector (slice_set longs n x));
+              next = state;
+              leads = leads_to g.setting g.code e (one_step g.setting g.code (instr.VectorSet v) there step (omega arith));
+              agrees = agrees_set ground v (val.Vector (slice_set longs n x)) type.Vector is refl h;
+            };
+          })
+      by false less = record {
+        does = record {
+          next = state;
+          stops = one_stop g.setting g.code (instr.VectorSet v) there
+              (works ∙ ap (λ b. cond b (machine.stored v (val.Vector (slice_set longs n x)) [] (frame at (val.Long x ∷ val.Int (pos n) ∷ []) variables m.turns)) (machine.throws exn.Index (frame at (val.Long x ∷ val.Int (pos n) ∷ []) variables m.turns))) less);
+          fields = h.fields;
+        };
+      }
+  element_goes {st} {variables} {state} {m} v (val.Vector longs) (val.Int (negsuc n)) (val.Long x) at is hv hi hx here h there = record {
+    does = record {
+      next = state;
+      stops = one_stop g.setting g.code (instr.VectorSet v) there (ap (λ o. machine.element_set v (machine.a_value o) (val.Int (negsuc n)) (val.Long x) [] (frame at (val.Long x ∷ val.Int (negsuc n) ∷ []) variables m.turns)) here);
+      fields = h.fields;
+    };
+  }
   element_goes v (val.Vector longs) (val.Int n) (val.Int x) at is hv hi hx here h there = absurd (cc)
   element_goes v (val.Vector longs) (val.Int n) (val.Bool x) at is hv hi hx here h there = absurd (cc)
   element_goes v (val.Vector longs) (val.Int n) (val.Vector x) at is hv hi hx here h there = absurd (cc)
@@ -323,8 +332,17 @@ module _ {g : Ground} (ground : IsGround g) where
 
   returns_goes : {variables : List Val} {state : State} {m : Machine} {loop : Around} {exits : Exits} {to : ℕ} {end : Standing} (v : Val) (at : ℕ) → values.type_of v ≡ g.around.result → FieldsAgree g state m
       → slice_get g.code at ≡ Some instr.Return → Completes g loop exits 1 (frame at (v ∷ []) variables m.turns) state to end (completed (Returns v) m)
-  returns_goes {variables = variables} {state = state} {m = m} v at has fields is = record { does = record {
-    last = frame at (v ∷ []) variables m.turns; next = state; ends = one_end g.setting g.code instr.Return is refl; turns = refl; falls = omega arith; fields = fields; of_result = has } }
+  returns_goes {variables = variables} {state = state} {m = m} v at has fields is = record {
+    does = record {
+      last = frame at (v ∷ []) variables m.turns;
+      next = state;
+      ends = one_end g.setting g.code instr.Return is refl;
+      turns = refl;
+      falls = omega arith;
+      fields = fields;
+      of_result = has;
+    };
+  }
 
   pub return_does : (x : Option Expression) → Does (λ loop st. checking.returning g.around x st) (of_code (code.returned g.around.context x)) (returned g.calls x)
   return_does None loop st end p exits is laid variables state m h =
@@ -413,9 +431,9 @@ module _ {g : Ground} (ground : IsGround g) where
       let named = site.named in
       let name : code.field_name (scope_on g) field ≡ named.named.name = ap code.name_in named.is_named in
       let own : machine.is_own_field g.setting.field (code.field_name (scope_on g) field) ≡ true =
-          ap₂ machine.is_own_field site.own name ∙ (bytes_eq-Decides named.named.name named.named.name).1 refl in
+      ap₂ machine.is_own_field site.own name ∙ (bytes_eq-Decides named.named.name named.named.name).1 refl in
       let found : flat.signature_at g.setting.fields (code.field_name (scope_on g) field) k ≡ Some sig =
-          ap₂ (λ fs n. flat.signature_at fs n k) ground.same_fields name ∙ ap (λ o. flat.signature_in o k) named.only ∙ ap (λ z. signature z k) named.same_class ∙ is in
+      ap₂ (λ fs n. flat.signature_at fs n k) ground.same_fields name ∙ ap (λ o. flat.signature_in o k) named.only ∙ ap (λ z. signature z k) named.same_class ∙ is in
       let many : length sig.arguments ≡ length args = ap length (sym has) ∙ length_map args in
       let stack : List Val = pushed_all args [] in
       ap (λ b. cond b (machine.access_by k (flat.signature_at g.setting.fields (code.field_name (scope_on g) field) k) (pushed_all args []) f) None) own

@@ -169,6 +169,7 @@ early_typed c seen (a ∷ others) h = by (is_in a.variable seen) refl (early_typ
     first : (b : Bool) → is_in a.variable seen ≡ false → AllByRecursion (IsEarly c seen) (early_after (a.variable ∷ seen) others) → AllByRecursion (IsEarly c seen) (cond b (a.variable ∷ early_after (a.variable ∷ seen) others) (early_after (a.variable ∷ seen) others))
     first true unseen more = (record { typed = h.0; unseen = unseen }, more)
     first false unseen more = more
+
     by : (b : Bool) → is_in a.variable seen ≡ b → AllByRecursion (IsEarly c seen) (early_after seen others) → AllByRecursion (IsEarly c seen) (early_after (a.variable ∷ seen) others)
         → AllByRecursion (IsEarly c seen) (cond b (early_after seen others) (if_early a (early_after (a.variable ∷ seen) others)))
     by true is same more = same
@@ -250,7 +251,7 @@ module _ (s : Setting) (code : List Instr) (c : Context) (there : List Val) wher
       let e : suc (at + length start) ≡ at + length (set_at_start b v) = omega arith in
       let now : List Val = slice_set before v x in
       let store : Leads s code 1 (frame (at + length start) (x ∷ []) before turns) state (frame (at + length (set_at_start b v)) [] now turns) state =
-          leads_to s code e (one_step s code (instr.Store v) inner.1.0 (ap (λ z. cond z (Some (Goes (frame (suc (at + length start)) [] now turns))) None) (lt-ltb v (length before) within)) (omega arith)) in
+      leads_to s code e (one_step s code (instr.Store v) inner.1.0 (ap (λ z. cond z (Some (Goes (frame (suc (at + length start)) [] now turns))) None) (lt-ltb v (length before) within)) (omega arith)) in
       let first : Leads s code (length start + 1) (frame at [] before turns) state (frame (at + length (set_at_start b v)) [] now turns) state = leads_on s code (pushes k.type at turns inner.0) store in
       let less : length c.variables ≤ length now = subst (λ n. length c.variables ≤ n) (sym (length_set before v x)) room in
       let more : IsSet (length rest) (at + length (set_at_start b v)) turns now state vs = sets_all b same vs (at + length (set_at_start b v)) turns now state h.1 less outer.1 in

@@ -49,6 +49,7 @@ module _ (graph : Graph) (verified : IsVerified graph) where
         allowed = λ at i reached is_code. allowed_outside graph gathered i (no_entry_code of.kind i args_fit.no_entry (verified.bodies k of at i is is_code));
         fits = fits;
       }
+
       first : FrameFits graph verified k of calls None None gathered 0 turns [] on (first_frame of args turns)
       first = record {
         reached = ReachesStart;
@@ -59,13 +60,16 @@ module _ (graph : Graph) (verified : IsVerified graph) where
         turns = omega arith;
         spent = λ behind. let e = behind.only.behind in absurd (omega arith);
       }
+
       outside : (at : ℕ) (i : Instr) → slice_get of.code at ≡ Some i → is_of_entry i ≡ true → ⊥
       outside at i is_code e = false≢true (sym (no_entry_code of.kind i args_fit.no_entry (verified.bodies k of at i is is_code)) ∙ e)
+
       how : (ending : Ending) (f : Frame) → f.turns ≤ turns → EndsRight graph verified k of calls None None gathered 0 turns [] on ending f → CalledFits of turns (given ending f)
       how (Returned v) f left h = (h.4, left)
       how (Stopped outcome) f left h = h
       how (CutTo t) f left h = outside f.at (instr.Cut t) h.1 refl
       how (PartFor join v) f left h = outside f.at (instr.Part join) h.1 refl
+
       ends : (o : Option Ran) → RunsRight graph verified k of calls None None gathered 0 turns [] on no_state o → CalledFits of turns (given_by o)
       ends None h = h
       ends (Some ran) h = how ran.ending ran.frame h.turns h.ends
@@ -75,4 +79,4 @@ module _ (graph : Graph) (verified : IsVerified graph) where
   calls_fit zero turns less k of args gathered is fits = absurd (omega arith)
   calls_fit (suc depth) turns less k of args gathered is fits =
       subst (λ (o : Option GraphMethod). CalledFits of turns (method_run graph.fields graph.methods (calls_within depth graph.fields graph.methods) o args gathered turns)) (sym is)
-          (called_right k of (calls_within depth graph.fields graph.methods) args gathered turns is fits (λ fewer h. let below : fewer < depth = omega arith in calls_fit depth fewer below))
+      (called_right k of (calls_within depth graph.fields graph.methods) args gathered turns is fits (λ fewer h. let below : fewer < depth = omega arith in calls_fit depth fewer below))

@@ -60,10 +60,13 @@ set_all_holds m gathered (n ∷ ns) (x ∷ xs) variables room e v o =
   where
     both : (is_type (type_of_variable m n) x ≡ true) × (has_types m ns xs ≡ true)
     both = both_true (is_type (type_of_variable m n) x) (has_types m ns xs) e
+
     within : n < length variables
     within = let h = is_declared m n x both.0 in omega arith
+
     has : HoldsIn (slice_get m.vars n) gathered (Some x)
     has = value_holds m gathered n x both.0
+
     by : Holds m gathered variables v ⊎ Among v (n ∷ ns) → Holds m gathered (slice_set variables n x) v ⊎ Among v ns
     by (inl h) = inl (set_keeps m gathered variables n x within has v h)
     by (inr (inl same)) = inl (subst (λ (k : ℕ). Holds m gathered (slice_set variables n x) k) (sym same) (set_holds m gathered variables n x within has))
@@ -127,8 +130,10 @@ module _ (graph : Graph) (verified : IsVerified graph) (k : ℕ) (t : Task) (m :
     where
       typed : IsTypedAt graph m stacks_of at here.types
       typed = (verified.types t.method m is_method).typed at here.types here.stacked
+
       same : i ≡ typed.i
       same = some_is i typed.i (sym is_code ∙ typed.is_code)
+
       by : (v : ℕ) → IsNeeded graph.tasks m.code v next → (writes i ≡ Some v) ⊎ (writes i ≢ Some v) → IsOne m v
       by v h (inl e) =
           let store : typed.i ≡ instr.Store v = sym same ∙ store_writes i v e in

@@ -83,7 +83,7 @@ module _ (graph : Graph) (m : GraphMethod) (calls : Calls) (field : Option (List
       let k = if_parts (type_of_variable m v) type.Vector (Some (type.Int ∷ map type_of stack)) after e in
       let x = vector_in gathered (slice_get m.vars v) (slice_get variables v) k.0 h in
       subst (λ (o : Option Val). StepFits graph m field gathered (instr.VectorSize v) (frame at stack variables turns) after (machine.pushed (machine.size_of (a_value o)) stack (frame at stack variables turns))) (sym x.1)
-          (goes_on graph m field gathered (instr.VectorSize v) at stack variables (val.Int (pos (length x.0)) ∷ stack) turns after (IsFirst []) none_some false≢true (some_is (type.Int ∷ map type_of stack) after k.1))
+      (goes_on graph m field gathered (instr.VectorSize v) at stack variables (val.Int (pos (length x.0)) ∷ stack) turns after (IsFirst []) none_some false≢true (some_is (type.Int ∷ map type_of stack) after k.1))
 
   vector_get_on : (v : ℕ) (i : ℤ) (at : ℕ) (rest variables : List Val) (turns : ℕ) (after : Stack) → Holds m gathered variables v → type_of_variable m v ≡ Some type.Vector
       → type.Long ∷ map type_of rest ≡ after → Does graph m calls field key gathered (instr.VectorGet v) at (val.Int i ∷ rest) variables turns after
@@ -91,8 +91,8 @@ module _ (graph : Graph) (m : GraphMethod) (calls : Calls) (field : Option (List
       let x = vector_in gathered (slice_get m.vars v) (slice_get variables v) is h in
       let f = frame at (val.Int i ∷ rest) variables turns in
       subst (λ (o : Option Val). StepFits graph m field gathered (instr.VectorGet v) f after (machine.element (a_value o) (val.Int i) rest f)) (sym x.1)
-          (finds graph m field gathered type.Long (machine.a_long (machine.long_at x.0 (machine.at_index i))) (instr.VectorGet v) at (val.Int i ∷ rest) variables rest turns after (IsFirst []) none_some false≢true
-              (long_found (machine.long_at x.0 (machine.at_index i))) top)
+      (finds graph m field gathered type.Long (machine.a_long (machine.long_at x.0 (machine.at_index i))) (instr.VectorGet v) at (val.Int i ∷ rest) variables rest turns after (IsFirst []) none_some false≢true
+      (long_found (machine.long_at x.0 (machine.at_index i))) top)
 
   vector_get : (v : ℕ) (at : ℕ) (stack variables : List Val) (turns : ℕ) (after : Stack) → Holds m gathered variables v
       → if_type (type_of_variable m v) type.Vector (with_result type.Long (without (type.Int ∷ []) (map type_of stack))) ≡ Some after → Does graph m calls field key gathered (instr.VectorGet v) at stack variables turns after
@@ -101,7 +101,7 @@ module _ (graph : Graph) (m : GraphMethod) (calls : Calls) (field : Option (List
       let r = result_parts type.Long (without (type.Int ∷ []) (map type_of stack)) after k.1 in
       let t = int_top r.0 stack (one_off type.Int (map type_of stack) r.0 r.1) in
       subst (λ (vs : List Val). Does graph m calls field key gathered (instr.VectorGet v) at vs variables turns after) (sym t.2)
-          (vector_get_on v t.0 at t.1 variables turns after h k.0 (ap (λ us. type.Long ∷ us) t.3 ∙ r.2))
+      (vector_get_on v t.0 at t.1 variables turns after h k.0 (ap (λ us. type.Long ∷ us) t.3 ∙ r.2))
 
   vector_set_on : (v : ℕ) (x i : ℤ) (at : ℕ) (rest variables : List Val) (turns : ℕ) (after : Stack) → length variables ≡ length m.vars → Holds m gathered variables v → type_of_variable m v ≡ Some type.Vector
       → map type_of rest ≡ after → Does graph m calls field key gathered (instr.VectorSet v) at (val.Long x ∷ val.Int i ∷ rest) variables turns after
@@ -111,6 +111,7 @@ module _ (graph : Graph) (m : GraphMethod) (calls : Calls) (field : Option (List
     where
       f : Frame
       f = frame at (val.Long x ∷ val.Int i ∷ rest) variables turns
+
       by_test : (longs : List ℤ) (b : Bool) → StepFits graph m field gathered (instr.VectorSet v) (frame at (val.Long x ∷ val.Int i ∷ rest) variables turns) after (cond b (machine.stored v (val.Vector longs) rest (frame at (val.Long x ∷ val.Int i ∷ rest) variables turns)) (machine.throws exn.Index (frame at (val.Long x ∷ val.Int i ∷ rest) variables turns)))
       by_test longs true =
           let typed : is_type (type_of_variable m v) (val.Vector longs) ≡ true = ap (λ (p : Option ValueType). is_type p (val.Vector longs)) is in
@@ -118,6 +119,7 @@ module _ (graph : Graph) (m : GraphMethod) (calls : Calls) (field : Option (List
           let within : v < length variables = omega arith in
           stores graph m field gathered (instr.VectorSet v) at v (val.Vector longs) (val.Long x ∷ val.Int i ∷ rest) variables rest turns after (IsFirst []) (λ w q. absurd (none_some w q)) false≢true within (value_holds m gathered v (val.Vector longs) typed) top
       by_test longs false = (refl, tt)
+
       by_index : (longs : List ℤ) (o : Option ℕ) → StepFits graph m field gathered (instr.VectorSet v) (frame at (val.Long x ∷ val.Int i ∷ rest) variables turns) after (machine.set_at v longs o x rest (frame at (val.Long x ∷ val.Int i ∷ rest) variables turns))
       by_index longs None = (refl, tt)
       by_index longs (Some j) = by_test (slice_set longs j x) (nat_lt j (length longs))
@@ -130,13 +132,13 @@ module _ (graph : Graph) (m : GraphMethod) (calls : Calls) (field : Option (List
       let u = int_top after t.1 t.3 in
       let is : stack ≡ val.Long t.0 ∷ val.Int u.0 ∷ u.1 = t.2 ∙ ap (λ vs. val.Long t.0 ∷ vs) u.2 in
       subst (λ (vs : List Val). Does graph m calls field key gathered (instr.VectorSet v) at vs variables turns after) (sym is)
-          (vector_set_on v t.0 u.0 at u.1 variables turns after room h k.0 u.3)
+      (vector_set_on v t.0 u.0 at u.1 variables turns after room h k.0 u.3)
 
   collection_length : (v : ℕ) (at : ℕ) (stack variables : List Val) (turns : ℕ) (after : Stack)
       → if_members (members_of_variable m v) (Some (type.Int ∷ map type_of stack)) ≡ Some after → Does graph m calls field key gathered (instr.CollectionLength v) at stack variables turns after
   collection_length v at stack variables turns after e =
       goes_on graph m field gathered (instr.CollectionLength v) at stack variables (val.Int (pos (length gathered)) ∷ stack) turns after (IsFirst []) none_some false≢true
-          (some_is (type.Int ∷ map type_of stack) after (members_parts (members_of_variable m v) (Some (type.Int ∷ map type_of stack)) after e))
+      (some_is (type.Int ∷ map type_of stack) after (members_parts (members_of_variable m v) (Some (type.Int ∷ map type_of stack)) after e))
 
   collection_item : (v : ℕ) (at : ℕ) (stack variables : List Val) (turns : ℕ) (after : Stack) → Holds m gathered variables v
       → pushing (members_of_variable m v) (without (type.Int ∷ []) (map type_of stack)) ≡ Some after → Does graph m calls field key gathered (instr.CollectionItem v) at stack variables turns after
@@ -146,7 +148,7 @@ module _ (graph : Graph) (m : GraphMethod) (calls : Calls) (field : Option (List
       let are = members_in gathered (slice_get m.vars v) (slice_get variables v) p.of p.is_type h in
       let top : p.of ∷ map type_of t.1 ≡ after = ap (λ us. p.of ∷ us) t.3 ∙ sym (on_top_is p.of p.stack (member_value (slice_get m.vars v) p.of p.is_type)) ∙ p.top in
       subst (λ (vs : List Val). Does graph m calls field key gathered (instr.CollectionItem v) at vs variables turns after) (sym t.2)
-          (finds graph m field gathered p.of (machine.item_at gathered (machine.at_index t.0)) (instr.CollectionItem v) at (val.Int t.0 ∷ t.1) variables t.1 turns after (IsFirst []) none_some false≢true (member_found p.of gathered t.0 are) top)
+      (finds graph m field gathered p.of (machine.item_at gathered (machine.at_index t.0)) (instr.CollectionItem v) at (val.Int t.0 ∷ t.1) variables t.1 turns after (IsFirst []) none_some false≢true (member_found p.of gathered t.0 are) top)
 
   size_of_member : (v : ℕ) (i : ℤ) (at : ℕ) (rest variables : List Val) (turns : ℕ) (after : Stack) (o : Option Val) → Has type.Vector o → type.Int ∷ map type_of rest ≡ after
       → StepFits graph m field gathered (instr.CollectionSize v) (frame at (val.Int i ∷ rest) variables turns) after (machine.with_found o (machine.member_size rest (frame at (val.Int i ∷ rest) variables turns)) (frame at (val.Int i ∷ rest) variables turns))
@@ -163,7 +165,7 @@ module _ (graph : Graph) (m : GraphMethod) (calls : Calls) (field : Option (List
       let t = int_top r.0 stack (one_off type.Int (map type_of stack) r.0 r.1) in
       let are = members_in gathered (slice_get m.vars v) (slice_get variables v) type.Vector k.0 h in
       subst (λ (vs : List Val). Does graph m calls field key gathered (instr.CollectionSize v) at vs variables turns after) (sym t.2)
-          (size_of_member v t.0 at t.1 variables turns after (machine.item_at gathered (machine.at_index t.0)) (member_found type.Vector gathered t.0 are) (ap (λ us. type.Int ∷ us) t.3 ∙ r.2))
+      (size_of_member v t.0 at t.1 variables turns after (machine.item_at gathered (machine.at_index t.0)) (member_found type.Vector gathered t.0 are) (ap (λ us. type.Int ∷ us) t.3 ∙ r.2))
 
   checked_member : (v : ℕ) (i : ℤ) (at : ℕ) (rest variables : List Val) (turns : ℕ) (after : Stack) (o : Option Val) → type.Int ∷ map type_of rest ≡ after
       → StepFits graph m field gathered (instr.CollectionCheck v) (frame at (val.Int i ∷ rest) variables turns) after (machine.with_found o (machine.member_checked (val.Int i) rest (frame at (val.Int i ∷ rest) variables turns)) (frame at (val.Int i ∷ rest) variables turns))
@@ -177,14 +179,14 @@ module _ (graph : Graph) (m : GraphMethod) (calls : Calls) (field : Option (List
       let r = result_parts type.Int (without (type.Int ∷ []) (map type_of stack)) after (members_parts (members_of_variable m v) (with_result type.Int (without (type.Int ∷ []) (map type_of stack))) after e) in
       let t = int_top r.0 stack (one_off type.Int (map type_of stack) r.0 r.1) in
       subst (λ (vs : List Val). Does graph m calls field key gathered (instr.CollectionCheck v) at vs variables turns after) (sym t.2)
-          (checked_member v t.0 at t.1 variables turns after (machine.item_at gathered (machine.at_index t.0)) (ap (λ us. type.Int ∷ us) t.3 ∙ r.2))
+      (checked_member v t.0 at t.1 variables turns after (machine.item_at gathered (machine.at_index t.0)) (ap (λ us. type.Int ∷ us) t.3 ∙ r.2))
 
   element_of_member : (v : ℕ) (j i : ℤ) (at : ℕ) (rest variables : List Val) (turns : ℕ) (after : Stack) (o : Option Val) → Has type.Vector o → type.Long ∷ map type_of rest ≡ after
       → StepFits graph m field gathered (instr.CollectionGet v) (frame at (val.Int j ∷ val.Int i ∷ rest) variables turns) after (machine.with_found o (machine.member_element (val.Int j) rest (frame at (val.Int j ∷ val.Int i ∷ rest) variables turns)) (frame at (val.Int j ∷ val.Int i ∷ rest) variables turns))
   element_of_member v j i at rest variables turns after None h top = (refl, tt)
   element_of_member v j i at rest variables turns after (Some (val.Vector longs)) h top =
       finds graph m field gathered type.Long (machine.a_long (machine.long_at longs (machine.at_index j))) (instr.CollectionGet v) at (val.Int j ∷ val.Int i ∷ rest) variables rest turns after (IsFirst []) none_some false≢true
-          (long_found (machine.long_at longs (machine.at_index j))) top
+      (long_found (machine.long_at longs (machine.at_index j))) top
   element_of_member v j i at rest variables turns after (Some _) h top = absurd (cc)
 
   collection_get : (v : ℕ) (at : ℕ) (stack variables : List Val) (turns : ℕ) (after : Stack) → Holds m gathered variables v
@@ -197,7 +199,7 @@ module _ (graph : Graph) (m : GraphMethod) (calls : Calls) (field : Option (List
       let is : stack ≡ val.Int t.0 ∷ val.Int u.0 ∷ u.1 = t.2 ∙ ap (λ vs. val.Int t.0 ∷ vs) u.2 in
       let are = members_in gathered (slice_get m.vars v) (slice_get variables v) type.Vector k.0 h in
       subst (λ (vs : List Val). Does graph m calls field key gathered (instr.CollectionGet v) at vs variables turns after) (sym is)
-          (element_of_member v t.0 u.0 at u.1 variables turns after (machine.item_at gathered (machine.at_index u.0)) (member_found type.Vector gathered u.0 are) (ap (λ us. type.Long ∷ us) u.3 ∙ r.2))
+      (element_of_member v t.0 u.0 at u.1 variables turns after (machine.item_at gathered (machine.at_index u.0)) (member_found type.Vector gathered u.0 are) (ap (λ us. type.Long ∷ us) u.3 ∙ r.2))
 
   -- ---- calls
 
@@ -233,8 +235,8 @@ module _ (graph : Graph) (m : GraphMethod) (calls : Calls) (field : Option (List
       } in
       let taken : machine.arguments of.params stack ≡ Some (two t.args t.rest) = ap (λ (n : ℕ). machine.arguments n stack) (sym many) ∙ t.is in
       subst (λ (o : Option (List Val × List Val)). StepFits graph m field gathered (instr.Call k) (frame at stack variables turns) after (machine.call_on calls k o (frame at stack variables turns))) (sym taken)
-          (called (instr.Call k) of at stack variables t.rest turns after (calls k t.args [] turns) (IsFirst []) none_some false≢true (fits k of t.args [] is args)
-              (ap (λ (ts : Stack). on_top (result_by of.result) ts) t.left ∙ r.2))
+      (called (instr.Call k) of at stack variables t.rest turns after (calls k t.args [] turns) (IsFirst []) none_some false≢true (fits k of t.args [] is args)
+      (ap (λ (ts : Stack). on_top (result_by of.result) ts) t.left ∙ r.2))
     where
       entry_is_not : method_kind.Entry ≡ method_kind.Helper → ⊥
       entry_is_not q = cc
@@ -243,8 +245,8 @@ module _ (graph : Graph) (m : GraphMethod) (calls : Calls) (field : Option (List
       → called_type (slice_get graph.methods k) (map type_of stack) ≡ Some after → Does graph m calls field key gathered (instr.Call k) at stack variables turns after
   call k at stack variables turns after named fits e =
       subst (λ (o : Option GraphMethod). StepFits graph m field gathered (instr.Call k) (frame at stack variables turns) after (machine.call calls k o stack (frame at stack variables turns))) (sym named.is_method)
-          (call_of_method k named.of at stack variables turns after named.is_method named.is_kind fits
-              (subst (λ (o : Option GraphMethod). called_type o (map type_of stack) ≡ Some after) named.is_method e))
+      (call_of_method k named.of at stack variables turns after named.is_method named.is_kind fits
+      (subst (λ (o : Option GraphMethod). called_type o (map type_of stack) ≡ Some after) named.is_method e))
 
   merge : (k : ℕ) (at : ℕ) (stack variables : List Val) (turns : ℕ) (after : Stack) → HasMethod graph k method_kind.Merge
       → Allowed graph field key gathered (instr.Merge k) → CallsFit graph calls turns
@@ -252,8 +254,8 @@ module _ (graph : Graph) (m : GraphMethod) (calls : Calls) (field : Option (List
   merge k at stack variables turns after named allowed fits e =
       let top : Some (on_top (result_by named.of.result) (map type_of stack)) ≡ Some after = ap (λ (o : Option GraphMethod). merged_type o (map type_of stack)) (sym named.is_method) ∙ e in
       called (instr.Merge k) named.of at stack variables stack turns after (calls k (val.Unit ∷ []) gathered turns) (IsFirst []) none_some false≢true
-          (fits k named.of (val.Unit ∷ []) gathered named.is_method (allowed named.of named.is_method named.is_kind))
-          (some_is (on_top (result_by named.of.result) (map type_of stack)) after top)
+      (fits k named.of (val.Unit ∷ []) gathered named.is_method (allowed named.of named.is_method named.is_kind))
+      (some_is (on_top (result_by named.of.result) (map type_of stack)) after top)
 
   key_step : (at : ℕ) (stack variables : List Val) (turns : ℕ) (after : Stack) → HasKey key → Some (type.Long ∷ map type_of stack) ≡ Some after → Does graph m calls field key gathered instr.Key at stack variables turns after
   key_step at stack variables turns after has e = by key has
@@ -272,23 +274,23 @@ module _ (graph : Graph) (m : GraphMethod) (calls : Calls) (field : Option (List
       let it = Some (Accesses k t.args (frame (suc at) t.rest variables turns)) in
       let its : machine.is_own_field field name ≡ true = ap (λ (o : Option (List ℕ)). machine.is_own_field o name) own ∙ (bytes_eq-Decides name name).1 refl in
       let path : perform_on (setting_of graph calls field key gathered) (instr.Access name k) stack f ≡ it =
-          ap (λ (b : Bool). cond b (machine.access_by k (signature_at graph.fields name k) stack f) None) its
-          ∙ ap (λ (o : Option Signature). machine.access_by k o stack f) named.is_signature
-          ∙ ap (λ (o : Option (List Val × List Val)). machine.access_with k sig o f) t.is
-          ∙ ap (λ (b : Bool). cond b it None) (are_same (map type_of t.args) sig.arguments t.of) in
+      ap (λ (b : Bool). cond b (machine.access_by k (signature_at graph.fields name k) stack f) None) its
+      ∙ ap (λ (o : Option Signature). machine.access_by k o stack f) named.is_signature
+      ∙ ap (λ (o : Option (List Val × List Val)). machine.access_with k sig o f) t.is
+      ∙ ap (λ (b : Bool). cond b it None) (are_same (map type_of t.args) sig.arguments t.of) in
       subst (λ (p : Option Performed). StepFits graph m field gathered (instr.Access name k) f after p) (sym path)
-          (record {
-            name = name;
-            is = refl;
-            own = own;
-            sig = sig;
-            is_signature = named.is_signature;
-            of = t.of;
-            top = ap (λ (ts : Stack). on_top sig.result ts) t.left ∙ r.2;
-            at = refl;
-            variables = refl;
-            turns = refl;
-          })
+      (record {
+        name = name;
+        is = refl;
+        own = own;
+        sig = sig;
+        is_signature = named.is_signature;
+        of = t.of;
+        top = ap (λ (ts : Stack). on_top sig.result ts) t.left ∙ r.2;
+        at = refl;
+        variables = refl;
+        turns = refl;
+      })
 
   -- ---- ends
 

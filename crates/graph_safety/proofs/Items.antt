@@ -71,8 +71,8 @@ pub taken : (graph : Graph) (k : TaskKind) (o : Option Task) (t : Task) (turns :
 taken graph k o t turns vs m is of_kind most is_method typed =
     ap (λ (p : Option Task). takes graph k p turns vs) is
     ∙ and_true (is_kind k t.kind && not (nat_lt turns_at_start turns)) (values_fit (slice_get graph.methods t.method) t vs)
-        (and_true (is_kind k t.kind) (not (nat_lt turns_at_start turns)) (ap (λ j. is_kind k j) of_kind ∙ kind_itself k) (is_not (nat_lt turns_at_start turns) (le-ltb turns_at_start turns most)))
-        (ap (λ (p : Option GraphMethod). values_fit p t vs) is_method ∙ typed)
+    (and_true (is_kind k t.kind) (not (nat_lt turns_at_start turns)) (ap (λ j. is_kind k j) of_kind ∙ kind_itself k) (is_not (nat_lt turns_at_start turns) (le-ltb turns_at_start turns most)))
+    (ap (λ (p : Option GraphMethod). values_fit p t vs) is_method ∙ typed)
 
 -- ---- fields
 

@@ -139,8 +139,8 @@ module _ (graph : Graph) (verified : IsVerified graph) (widths : List ℕ) (are 
         let right = verified.tasks k its.t its.is in
         let no_field = (subst (λ (j : TaskKind). StandsRight graph k right.of its.t j) its.of_kind right.stands).1 in
         task_item graph verified widths are port.Join part parts k kind.Join None (v ∷ values) ws first pick call None state its (λ q. absurd (cc)) (λ q. merges its.t v values h)
-            (record { of_call = refl; with_turns = e; runs_method = method_is graph verified widths are k kind.Join first ws its; for = (tt, λ q. let r = sym its.of_kind ∙ q in absurd (cc)) })
-            (λ name own. absurd (none_some name (sym no_field ∙ own)))
+        (record { of_call = refl; with_turns = e; runs_method = method_is graph verified widths are k kind.Join first ws its; for = (tt, λ q. let r = sym its.of_kind ∙ q in absurd (cc)) })
+        (λ name own. absurd (none_some name (sym no_field ∙ own)))
 
     not_empty : (h : Outcome) (g : Gathered) → gathered_in h g ≡ AllValues [] → ⊥
     not_empty (outcome.Value v) (AllValues ws) e = cc
@@ -156,7 +156,7 @@ module _ (graph : Graph) (verified : IsVerified graph) (widths : List ℕ) (are 
         let b = (both_true (takes graph kind.Join (slice_get graph.tasks u) s ws) (is_instance w i) a).0 in
         let its = taking graph kind.Join (slice_get graph.tasks k) s ws (ap (λ (n : ℕ). takes graph kind.Join (slice_get graph.tasks n) s ws) (sym h.0.1.1) ∙ b) in
         subst (λ (n : ℕ). GivesRight graph widths port.Join part parts state (joined_with joins n s ws (gathered_of (item.Part c u w i s ws o ∷ ps)) state)) (sym h.0.1.1)
-            (from_first s ws (gathered_of (item.Part c u w i s ws o ∷ ps)) (ap turns_of_first e) its (gathered_fits call k its.t its.is (item.Part c u w i s ws o ∷ ps) h) (not_empty o (gathered_of ps)))
+        (from_first s ws (gathered_of (item.Part c u w i s ws o ∷ ps)) (ap turns_of_first e) its (gathered_fits call k its.t its.is (item.Part c u w i s ws o ∷ ps) h) (not_empty o (gathered_of ps)))
     from_parts (_ ∷ ps) e h = absurd h.0.1
 
     at_join : EachOf (IsJoining graph widths call k) (with_part part parts) → GivesRight graph widths port.Join part parts state (joined joins width (with_part part parts) state)
@@ -173,5 +173,5 @@ module _ (graph : Graph) (verified : IsVerified graph) (widths : List ℕ) (are 
       let a = (both_true (takes graph kind.Join (slice_get graph.tasks k) turns vs && is_instance width instance) (brings graph (slice_get graph.tasks k) how) (join_parts graph widths call k width instance turns vs how e)).0 in
       let it = taking graph kind.Join (slice_get graph.tasks k) turns vs (both_true (takes graph kind.Join (slice_get graph.tasks k) turns vs) (is_instance width instance) a).0 in
       at_join call k width instance turns vs how parts pick state it
-          (with_part_each (IsJoining graph widths call k) (item.Part call k width instance turns vs how) parts (e, (refl, refl))
-              (each_of (IsJoining graph widths call k) parts (λ n other is. let b = beside n other is in (b.0, of_one_join call k width instance turns vs how other b.1))))
+      (with_part_each (IsJoining graph widths call k) (item.Part call k width instance turns vs how) parts (e, (refl, refl))
+      (each_of (IsJoining graph widths call k) parts (λ n other is. let b = beside n other is in (b.0, of_one_join call k width instance turns vs how other b.1))))

@@ -108,7 +108,7 @@ fits_join : (graph : Graph) (widths : List ℕ) (call join width instance turns 
 unfolding fits
 fits_join graph widths call join width instance turns vs how a b c =
     and_true (takes graph kind.Join (slice_get graph.tasks join) turns vs && is_instance width instance) (brings graph (slice_get graph.tasks join) how)
-        (and_true (takes graph kind.Join (slice_get graph.tasks join) turns vs) (is_instance width instance) a b) c
+    (and_true (takes graph kind.Join (slice_get graph.tasks join) turns vs) (is_instance width instance) a b) c
 
 fits_slot : (graph : Graph) (widths : List ℕ) (f call c turns : ℕ) (key : ℤ) (vs : List Val)
     → is_field graph (slice_get graph.tasks c) f ≡ true → takes graph kind.Keyed (slice_get graph.tasks c) turns vs ≡ true
@@ -116,8 +116,8 @@ fits_slot : (graph : Graph) (widths : List ℕ) (f call c turns : ℕ) (key : �
 unfolding fits
 fits_slot graph widths f call c turns key vs a b =
     and_true (takes_at graph kind.Keyed f (slice_get graph.tasks c) turns vs) (is_key_of (slot key (width_of widths f)) (width_of widths f) (Some key))
-        (and_true (is_field graph (slice_get graph.tasks c) f) (takes graph kind.Keyed (slice_get graph.tasks c) turns vs) a b)
-        (eq-eqb (slot key (width_of widths f)) (slot key (width_of widths f)) refl)
+    (and_true (is_field graph (slice_get graph.tasks c) f) (takes graph kind.Keyed (slice_get graph.tasks c) turns vs) a b)
+    (eq-eqb (slot key (width_of widths f)) (slot key (width_of widths f)) refl)
 
 fits_instance : (graph : Graph) (widths : List ℕ) (f n call c turns : ℕ) (vs : List Val)
     → is_field graph (slice_get graph.tasks c) f ≡ true → takes graph kind.Local (slice_get graph.tasks c) turns vs ≡ true
@@ -125,7 +125,7 @@ fits_instance : (graph : Graph) (widths : List ℕ) (f n call c turns : ℕ) (vs
 unfolding fits
 fits_instance graph widths f n call c turns vs a b =
     and_true (takes_at graph kind.Local f (slice_get graph.tasks c) turns vs) (no_key None)
-        (and_true (is_field graph (slice_get graph.tasks c) f) (takes graph kind.Local (slice_get graph.tasks c) turns vs) a b) refl
+    (and_true (is_field graph (slice_get graph.tasks c) f) (takes graph kind.Local (slice_get graph.tasks c) turns vs) a b) refl
 
 fits_visit : (graph : Graph) (widths : List ℕ) (f n call c width turns : ℕ) (vs : List Val)
     → is_field graph (slice_get graph.tasks c) f ≡ true → takes graph kind.Visit (slice_get graph.tasks c) turns vs ≡ true → is_instance width n ≡ true
@@ -133,7 +133,7 @@ fits_visit : (graph : Graph) (widths : List ℕ) (f n call c width turns : ℕ) 
 unfolding fits
 fits_visit graph widths f n call c width turns vs a b i =
     and_true (takes_at graph kind.Visit f (slice_get graph.tasks c) turns vs) (is_instance width n)
-        (and_true (is_field graph (slice_get graph.tasks c) f) (takes graph kind.Visit (slice_get graph.tasks c) turns vs) a b) i
+    (and_true (is_field graph (slice_get graph.tasks c) f) (takes graph kind.Visit (slice_get graph.tasks c) turns vs) a b) i
 
 -- ---- what is sent, by the kind of the task
 
@@ -200,23 +200,25 @@ module _ (graph : Graph) (verified : IsVerified graph) (widths : List ℕ) (are 
       let same : t.method ≡ u.method = (stands.only t.method has.at code).0 in
       let is_method : slice_get graph.methods u.method ≡ Some m = subst (λ (n : ℕ). slice_get graph.methods n ≡ Some m) same task.is_method in
       let brought_on = carries m gathered u.vars f.variables
-          (λ v h. holds v (verified.joins k has.join has.at t u v task.is_task has.reached named.is_task h))
-          (λ v h. task.one v (verified.joins k has.join has.at t u v task.is_task has.reached named.is_task h)) in
+      (λ v h. holds v (verified.joins k has.join has.at t u v task.is_task has.reached named.is_task h))
+      (λ v h. task.one v (verified.joins k has.join has.at t u v task.is_task has.reached named.is_task h)) in
       let few = task.few in
       let still : f.turns ≤ turns_at_start = omega arith in
       let path : parted sends (Some visit) has.join (slice_get graph.tasks has.join) f how other
-              ≡ Some (record { output = Part (item.Part call has.join visit.width visit.instance f.turns brought_on.values how); state = other }) =
-          ap (λ (o : Option Task). parted sends (Some visit) has.join o f how other) named.is_task
-          ∙ ap (λ (o : Option (List Val)). part_of sends visit has.join f.turns o how other) brought_on.is in
-      subst (λ (g : Gives). GivesRight graph widths at from parts state g) (sym path)
-          (record {
-            for_join = subst (λ (c : ℕ). IsForJoin graph at from (item.Part c has.join visit.width visit.instance f.turns brought_on.values how)) source.of_call
-                (for.for_join has.join f.turns brought_on.values how (join_is has) less);
-            takes = fits_join graph widths call has.join visit.width visit.instance f.turns brought_on.values how
-                (taken graph kind.Join (slice_get graph.tasks has.join) u f.turns brought_on.values m named.is_task joins still is_method brought_on.typed)
-                for.instance
-                (ap (λ (o : Option Task). brings graph o how) named.is_task ∙ brings_it u named.is_task);
-          }, class)
+      ≡ Some (record { output = Part (item.Part call has.join visit.width visit.instance f.turns brought_on.values how); state = other }) =
+      ap (λ (o : Option Task). parted sends (Some visit) has.join o f how other) named.is_task
+      ∙ ap (λ (o : Option (List Val)). part_of sends visit has.join f.turns o how other) brought_on.is in
+      subst (λ (g : Gives). GivesRight graph widths at from parts state g) (sym path) (
+        record {
+          for_join = subst (λ (c : ℕ). IsForJoin graph at from (item.Part c has.join visit.width visit.instance f.turns brought_on.values how)) source.of_call
+              (for.for_join has.join f.turns brought_on.values how (join_is has) less);
+          takes = fits_join graph widths call has.join visit.width visit.instance f.turns brought_on.values how
+              (taken graph kind.Join (slice_get graph.tasks has.join) u f.turns brought_on.values m named.is_task joins still is_method brought_on.typed)
+              for.instance
+              (ap (λ (o : Option Task). brings graph o how) named.is_task ∙ brings_it u named.is_task);
+        },
+        class,
+      )
 
   -- ---- a task that a cut names
 
@@ -240,7 +242,7 @@ module _ (graph : Graph) (verified : IsVerified graph) (widths : List ℕ) (are 
       let takes_cut : types_after graph m (instr.Cut c) (map type_of f.stack) ≡ Some typed.after = subst (λ (i : Instr). types_after graph m i (map type_of f.stack) ≡ Some typed.after) same typed.takes in
       let code : HasCode graph t.method f.at (instr.Cut c) = record { of = m; is_method = task.is_method; is_code = is_code } in
       let needs_it : (v : ℕ) → IsIn v named.of.vars → IsNeeded graph.tasks m.code v f.at =
-          λ v h. NeededHere f.at (instr.Cut c) is_code (subst (λ (o : Option Task). IsIn v (variables_of o)) (sym named.is_task) h) in
+      λ v h. NeededHere f.at (instr.Cut c) is_code (subst (λ (o : Option Task). IsIn v (variables_of o)) (sym named.is_task) h) in
       record {
         to = named.of;
         is_task = named.is_task;
@@ -281,15 +283,17 @@ module _ (graph : Graph) (verified : IsVerified graph) (widths : List ℕ) (are 
       let number = numbered graph cut.to.field field_kind.Partitioned stands.1 in
       let wide = width_is graph widths number.number field_kind.Partitioned are number.of_field in
       let path = ap (λ (o : Option Task). sent sends c o f other) cut.is_task
-          ∙ keyed_sent sends c number.number f.turns top.0 cut.values.values other cut.to.kind (field_number graph cut.to.field) f.stack (carried cut.to.vars f.variables) is_kind number.is top.1 cut.values.is in
-      subst (λ (g : Gives). GivesRight graph widths at from parts state g) (sym path)
-          (record {
-            no_visit = no_visit;
-            cell = (number.of_field, slot_within top.0 (width_of widths number.number) wide.0);
-            takes = fits_slot graph widths number.number call c f.turns top.0 cut.values.values (is_of_field graph (slice_get graph.tasks c) cut.to number.number cut.is_task number.is) (taken_there f c cut kind.Keyed is_code is_kind stands.0);
-            same_call = sym source.of_call;
-            fewer = fewer_of f c cut;
-          }, class)
+      ∙ keyed_sent sends c number.number f.turns top.0 cut.values.values other cut.to.kind (field_number graph cut.to.field) f.stack (carried cut.to.vars f.variables) is_kind number.is top.1 cut.values.is in
+      subst (λ (g : Gives). GivesRight graph widths at from parts state g) (sym path) (
+        record {
+          no_visit = no_visit;
+          cell = (number.of_field, slot_within top.0 (width_of widths number.number) wide.0);
+          takes = fits_slot graph widths number.number call c f.turns top.0 cut.values.values (is_of_field graph (slice_get graph.tasks c) cut.to number.number cut.is_task number.is) (taken_there f c cut kind.Keyed is_code is_kind stands.0);
+          same_call = sym source.of_call;
+          fewer = fewer_of f c cut;
+        },
+        class,
+      )
 
   local_right : (f : Frame) (c : ℕ) (cut : CutTask f c) (state other : State) → slice_get m.code f.at ≡ Some (instr.Cut c) → IsNoVisit from → class_of other ≡ class_of state → cut.to.kind ≡ kind.Local
       → GivesRight graph widths at from parts state (sent sends c (slice_get graph.tasks c) f other)
@@ -299,15 +303,17 @@ module _ (graph : Graph) (verified : IsVerified graph) (widths : List ℕ) (are 
       let number = numbered graph cut.to.field field_kind.Partial stands.1 in
       let wide = width_is graph widths number.number field_kind.Partial are number.of_field in
       let path = ap (λ (o : Option Task). sent sends c o f other) cut.is_task
-          ∙ local_sent sends c number.number f.turns cut.values.values other cut.to.kind (field_number graph cut.to.field) f.stack (carried cut.to.vars f.variables) is_kind number.is top cut.values.is in
-      subst (λ (g : Gives). GivesRight graph widths at from parts state g) (sym path)
-          (record {
-            no_visit = no_visit;
-            cell = (number.of_field, mod-lt pick wide.0);
-            takes = fits_instance graph widths number.number (pick % width_of widths number.number) call c f.turns cut.values.values (is_of_field graph (slice_get graph.tasks c) cut.to number.number cut.is_task number.is) (taken_there f c cut kind.Local is_code is_kind stands.0);
-            same_call = sym source.of_call;
-            fewer = fewer_of f c cut;
-          }, class)
+      ∙ local_sent sends c number.number f.turns cut.values.values other cut.to.kind (field_number graph cut.to.field) f.stack (carried cut.to.vars f.variables) is_kind number.is top cut.values.is in
+      subst (λ (g : Gives). GivesRight graph widths at from parts state g) (sym path) (
+        record {
+          no_visit = no_visit;
+          cell = (number.of_field, mod-lt pick wide.0);
+          takes = fits_instance graph widths number.number (pick % width_of widths number.number) call c f.turns cut.values.values (is_of_field graph (slice_get graph.tasks c) cut.to number.number cut.is_task number.is) (taken_there f c cut kind.Local is_code is_kind stands.0);
+          same_call = sym source.of_call;
+          fewer = fewer_of f c cut;
+        },
+        class,
+      )
 
   visit_right : (f : Frame) (c : ℕ) (cut : CutTask f c) (state other : State) → slice_get m.code f.at ≡ Some (instr.Cut c) → IsNoVisit from → class_of other ≡ class_of state → cut.to.kind ≡ kind.Visit
       → GivesRight graph widths at from parts state (sent sends c (slice_get graph.tasks c) f other)
@@ -317,18 +323,20 @@ module _ (graph : Graph) (verified : IsVerified graph) (widths : List ℕ) (are 
       let number = numbered graph cut.to.field field_kind.Partial stands.1 in
       let wide = width_is graph widths number.number field_kind.Partial are number.of_field in
       let path = ap (λ (o : Option Task). sent sends c o f other) cut.is_task
-          ∙ visit_sent sends c number.number f.turns cut.values.values other cut.to.kind (field_number graph cut.to.field) f.stack (carried cut.to.vars f.variables) is_kind number.is top cut.values.is in
-      subst (λ (g : Gives). GivesRight graph widths at from parts state g) (sym path)
-          (record {
-            no_visit = no_visit;
-            of_field = number.of_field;
-            as_wide = refl;
-            wide = refl;
-            takes = λ n within. fits_visit graph widths number.number n call c (width_of widths number.number) f.turns cut.values.values (is_of_field graph (slice_get graph.tasks c) cut.to number.number cut.is_task number.is) (taken_there f c cut kind.Visit is_code is_kind stands.0)
-                (instance_is (width_of widths number.number) n within wide.1);
-            same_call = sym source.of_call;
-            fewer = fewer_of f c cut;
-          }, class)
+      ∙ visit_sent sends c number.number f.turns cut.values.values other cut.to.kind (field_number graph cut.to.field) f.stack (carried cut.to.vars f.variables) is_kind number.is top cut.values.is in
+      subst (λ (g : Gives). GivesRight graph widths at from parts state g) (sym path) (
+        record {
+          no_visit = no_visit;
+          of_field = number.of_field;
+          as_wide = refl;
+          wide = refl;
+          takes = λ n within. fits_visit graph widths number.number n call c (width_of widths number.number) f.turns cut.values.values (is_of_field graph (slice_get graph.tasks c) cut.to number.number cut.is_task number.is) (taken_there f c cut kind.Visit is_code is_kind stands.0)
+              (instance_is (width_of widths number.number) n within wide.1);
+          same_call = sym source.of_call;
+          fewer = fewer_of f c cut;
+        },
+        class,
+      )
 
   cut_right : (f : Frame) (c : ℕ) (state other : State) → Fits f → slice_get m.code f.at ≡ Some (instr.Cut c) → IsNoVisit from → class_of other ≡ class_of state
       → GivesRight graph widths at from parts state (sent sends c (slice_get graph.tasks c) f other)
@@ -353,6 +361,7 @@ module _ (graph : Graph) (verified : IsVerified graph) (widths : List ℕ) (are 
       by_test : (b : Bool) (ty : ValueType) (after : Stack) → same_types (map type_of f.stack) (on_top ty []) ≡ b → cond b (Some []) None ≡ Some after → is_type (Some ty) v ≡ true
       by_test true ty after is e = is_same (type_of v) ty (ap type_of value ∙ part_has ty f.stack (same_are (map type_of f.stack) (on_top ty []) is))
       by_test false ty after is e = absurd (none_some after e)
+
       by : (after : Stack) (o : Option ValueType) → only_type o (map type_of f.stack) ≡ Some after → is_type o v ≡ true
       by after None e = absurd (none_some after e)
       by after (Some ty) e = by_test (same_types (map type_of f.stack) (on_top ty [])) ty after refl e
@@ -369,7 +378,7 @@ module _ (graph : Graph) (verified : IsVerified graph) (widths : List ℕ) (are 
       let has = verified.parts k t task.is_task h.of_kind in
       let path : join_number graph visit.task ≡ Some has.join = ap (λ (n : ℕ). join_number graph n) h.of_task ∙ join_is has in
       subst (λ (j : Option ℕ). GivesRight graph widths at from parts state (part_for_join sends (Some visit) j f how other)) (sym path)
-          (visit_part visit h has f how state other class holds less (λ u is_task. no_value_brought (brought graph u) how none))
+      (visit_part visit h has f how state other class holds less (λ u is_task. no_value_brought (brought graph u) how none))
 
   part_right : (o : Option Visited) → IsFor graph at from k t turns o → (f : Frame) (join : ℕ) (v : Val) (state other : State) → Fits f → slice_get m.code f.at ≡ Some (instr.Part join) → v ≡ part_value f.stack
       → class_of other ≡ class_of state → f.turns ≤ turns
@@ -382,8 +391,8 @@ module _ (graph : Graph) (verified : IsVerified graph) (widths : List ℕ) (are 
       let codes : instr.Part join ≡ instr.Part has.join = some_is (instr.Part join) (instr.Part has.join) (sym is_code ∙ ap (λ (n : ℕ). slice_get m.code n) here ∙ part_code has) in
       let same : join ≡ has.join = cc in
       subst (λ (j : ℕ). GivesRight graph widths at from parts state (parted sends (Some visit) j (slice_get graph.tasks j) f (outcome.Value v) other)) (sym same)
-          (visit_part visit h has f (outcome.Value v) state other class stands.carried less
-              (λ u is_task. what_part_brings f join v u stands is_code value (subst (λ (j : ℕ). IsTask graph j u) (sym same) is_task)))
+      (visit_part visit h has f (outcome.Value v) state other class stands.carried less
+      (λ u is_task. what_part_brings f join v u stands is_code value (subst (λ (j : ℕ). IsTask graph j u) (sym same) is_task)))
 
   ended_right : (ending : Ending) (f : Frame) (state other : State) → EndsRight graph verified t.method m (calls_of graph.fields graph.methods) t.field key gathered t.at turns t.vars (on graph verified k t m key gathered variables turns task) ending f
       → class_of other ≡ class_of state → ((v : ℕ) → IsIn v t.vars → Holds m gathered f.variables v) → f.turns ≤ turns

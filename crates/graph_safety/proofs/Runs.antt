@@ -48,7 +48,6 @@ true_or_not false = inr false≢true
 
 module _ (graph : Graph) (verified : IsVerified graph) (n : ℕ) (m : GraphMethod) (calls : Calls) (field : Option (List ℕ)) (key : Option ℤ) (gathered : List Val) (start most : ℕ) (vs : List ℕ)
     (on : Standing graph n m calls field key gathered start most) where
-
   -- a frame of the run
   pub record FrameFits (f : Frame) : Type 0 where
     pub reached : Reaches m.code start f.at
@@ -176,8 +175,8 @@ module _ (graph : Graph) (verified : IsVerified graph) (n : ℕ) (m : GraphMetho
   performed next f i after state (Some (Goes g)) fits is_code at h more = more g state refl h
   performed next f i after state (Some (Accesses k args g)) fits is_code at h more =
       after_call next f g i k args after state fits h (called k args state)
-          (answered (signature (class_of state) k) h.sig args (called k args state).0 (class_is h.name k h.sig state (at h.name h.own) h.is_signature) (call_answers k args state) h.of)
-          (call_keeps k args state) more
+      (answered (signature (class_of state) k) h.sig args (called k args state).0 (class_is h.name k h.sig state (at h.name h.own) h.is_signature) (call_answers k args state) h.of)
+      (call_keeps k args state) more
   performed next f i after state (Some (Ends ending g)) fits is_code at h more = record {
     carried = λ v k. subst (λ (l : Frame). Holds m gathered l.variables v) (sym h.0) (fits.carried v k);
     turns = subst (λ (l : Frame). l.turns ≤ most) (sym h.0) fits.turns;
@@ -210,25 +209,25 @@ module _ (graph : Graph) (verified : IsVerified graph) (n : ℕ) (m : GraphMetho
       let typed = typed_at f fits in
       let s = setting_of graph calls field key gathered in
       let does = step graph m calls field key gathered typed.i f.at f.stack f.variables f.turns typed.after
-          (verified.numbers n m f.at typed.i on.is_method typed.is_code) (on.allowed f.at typed.i fits.reached typed.is_code)
-          (λ v h. fits.needed v (NeededHere f.at typed.i typed.is_code (reads_needed graph.tasks typed.i v h))) fits.room
-          (λ spends. on.fits f.turns (fits.spent (verified.spends n f.at typed.i (code_at f typed.i typed.is_code) spends))) typed.takes in
+      (verified.numbers n m f.at typed.i on.is_method typed.is_code) (on.allowed f.at typed.i fits.reached typed.is_code)
+      (λ v h. fits.needed v (NeededHere f.at typed.i typed.is_code (reads_needed graph.tasks typed.i v h))) fits.room
+      (λ spends. on.fits f.turns (fits.spent (verified.spends n f.at typed.i (code_at f typed.i typed.is_code) spends))) typed.takes in
       subst (λ (o : Option Instr). RunsRight state (machine.after (run_within steps s m.code) state (perform s o f))) (sym typed.is_code)
-          (performed (run_within steps s m.code) f typed.i typed.after state (perform_on s typed.i f.stack f) fits typed.is_code at does
-              (λ to other same stepped. by to other stepped same (true_or_not (is_turn typed.i)) (λ passed. runs_within steps passed to other)))
+      (performed (run_within steps s m.code) f typed.i typed.after state (perform_on s typed.i f.stack f) fits typed.is_code at does
+      (λ to other same stepped. by to other stepped same (true_or_not (is_turn typed.i)) (λ passed. runs_within steps passed to other)))
     where
       by : (to : Frame) (other : State) → StepTo m gathered (typed_at f fits).i f to (typed_at f fits).after → class_of other ≡ class_of state
           → ((is_turn (typed_at f fits).i ≡ true) ⊎ (is_turn (typed_at f fits).i ≡ true → ⊥))
           → ((passed : List ℕ) → FrameFits to → IsStateFor graph field other → AllFree passed to.at → Suffices (length m.code) to.turns passed steps
-              → RunsRight other (run_within steps (setting_of graph calls field key gathered) m.code to other))
+          → RunsRight other (run_within steps (setting_of graph calls field key gathered) m.code to other))
           → RunsRight other (run_within steps (setting_of graph calls field key gathered) m.code to other)
       by to other stepped same (inl turn) more =
           more [] (moved f to (typed_at f fits).i (typed_at f fits).after fits (typed_at f fits).is_code (typed_at f fits).leaves stepped) (state_stays state other same at) (λ p h. absurd h)
-              (suffices_spent (length m.code) f.turns to.turns passed steps enough (stepped.spent turn))
+          (suffices_spent (length m.code) f.turns to.turns passed steps enough (stepped.spent turn))
       by to other stepped same (inr plain) more =
           more (f.at ∷ passed) (moved f to (typed_at f fits).i (typed_at f fits).after fits (typed_at f fits).is_code (typed_at f fits).leaves stepped) (state_stays state other same at)
-              (free_next passed f.at to.at (typed_at f fits).i free (typed_at f fits).is_code (turn_is (typed_at f fits).i plain) stepped.next)
-              (suffices_next (length m.code) f.turns to.turns passed f.at steps enough stepped.turns (get_within m.code f.at (typed_at f fits).i (typed_at f fits).is_code) (new_at passed f.at free))
+          (free_next passed f.at to.at (typed_at f fits).i free (typed_at f fits).is_code (turn_is (typed_at f fits).i plain) stepped.next)
+          (suffices_next (length m.code) f.turns to.turns passed f.at steps enough stepped.turns (get_within m.code f.at (typed_at f fits).i (typed_at f fits).is_code) (new_at passed f.at free))
 
   pub runs_right : (f : Frame) (state : State) → FrameFits f → IsStateFor graph field state → RunsRight state (run (setting_of graph calls field key gathered) m.code f state)
   runs_right f state fits at = runs_within (most_steps m.code f.turns) [] f state fits at (λ p h. absurd h) (suffices_at_first (length m.code) f.turns)

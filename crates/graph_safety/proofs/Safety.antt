@@ -26,16 +26,16 @@ module _ (graph : Graph) (verified : IsVerified graph) (widths : List ℕ) (are 
   unfolding fits runs
   gives_right port.Front (item.Start call n args) parts state pick e beside there =
       alone port.Front (item.Start call n args) parts state (λ ps. started (sender graph widths pick call None) (slice_get graph.methods n) args turns_at_start state) beside
-          (front_item graph verified widths are call n args pick state (slice_get graph.methods n) refl e)
+      (front_item graph verified widths are call n args pick state (slice_get graph.methods n) refl e)
   gives_right (port.Slot f n) (item.Work call k key turns vs) parts state pick e beside there =
       alone (port.Slot f n) (item.Work call k key turns vs) parts state (λ ps. run_from (sender graph widths pick call None) (slice_get graph.tasks k) key [] turns vs state) beside
-          (slot_item graph verified widths are f n call k turns key vs pick state e there)
+      (slot_item graph verified widths are f n call k turns key vs pick state e there)
   gives_right (port.Inst f n) (item.Work call k key turns vs) parts state pick e beside there =
       alone (port.Inst f n) (item.Work call k key turns vs) parts state (λ ps. run_from (sender graph widths pick call None) (slice_get graph.tasks k) key [] turns vs state) beside
-          (instance_item graph verified widths are f n call k turns key vs pick state e there)
+      (instance_item graph verified widths are f n call k turns key vs pick state e there)
   gives_right (port.Inst f n) (item.Visit call k width turns vs) parts state pick e beside there =
       alone (port.Inst f n) (item.Visit call k width turns vs) parts state (λ ps. run_from (sender graph widths pick call (visit width n k)) (slice_get graph.tasks k) None [] turns vs state) beside
-          (visit_item graph verified widths are f n call k width turns vs pick state e there)
+      (visit_item graph verified widths are f n call k width turns vs pick state e there)
   gives_right port.Join (item.Part call k width instance turns vs how) parts state pick e beside there =
       part_item graph verified widths are call k width instance turns vs how parts pick state e beside
   gives_right _ _ parts state pick e beside there = absurd (false≢true e)

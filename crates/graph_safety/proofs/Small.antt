@@ -59,6 +59,7 @@ letters name some each is = record { each = all; distinct = distinct }
     all : All IsIdentifier (name ∷ [])
     all zero d h = is
     all (suc k) d h = absurd (omega arith)
+
     distinct : AreDistinct (name ∷ [])
     distinct zero zero n e h = refl
     distinct zero (suc j) n e h = absurd (none_some n h)
@@ -80,27 +81,27 @@ start_reaches : (at : ℕ) → Reaches small_code 0 at → at ≤ 2
 start_reaches at ReachesStart = omega arith
 start_reaches at (ReachesNext before next i reached is_code is_next) =
     each_instruction (λ n j. n ≤ 2 → IsIn next (next_in_task n j) → next ≤ 2)
-        (record {
-          load = λ h k. let e = only_one next 1 k in omega arith;
-          turn = λ h k. let e = only_one next 2 k in omega arith;
-          cut = λ h k. absurd (among next [] k);
-          key = λ h k. absurd (omega arith);
-          access = λ h k. absurd (omega arith);
-          return = λ h k. absurd (omega arith);
-        }) before i is_code (start_reaches before reached) is_next
+    (record {
+      load = λ h k. let e = only_one next 1 k in omega arith;
+      turn = λ h k. let e = only_one next 2 k in omega arith;
+      cut = λ h k. absurd (among next [] k);
+      key = λ h k. absurd (omega arith);
+      access = λ h k. absurd (omega arith);
+      return = λ h k. absurd (omega arith);
+    }) before i is_code (start_reaches before reached) is_next
 
 keyed_reaches : (at : ℕ) → Reaches small_code 3 at → 3 ≤ at
 keyed_reaches at ReachesStart = omega arith
 keyed_reaches at (ReachesNext before next i reached is_code is_next) =
     each_instruction (λ n j. 3 ≤ n → IsIn next (next_in_task n j) → 3 ≤ next)
-        (record {
-          load = λ h k. absurd (omega arith);
-          turn = λ h k. absurd (omega arith);
-          cut = λ h k. absurd (omega arith);
-          key = λ h k. let e = only_one next 4 k in omega arith;
-          access = λ h k. let e = only_one next 5 k in omega arith;
-          return = λ h k. absurd (among next [] k);
-        }) before i is_code (keyed_reaches before reached) is_next
+    (record {
+      load = λ h k. absurd (omega arith);
+      turn = λ h k. absurd (omega arith);
+      cut = λ h k. absurd (omega arith);
+      key = λ h k. let e = only_one next 4 k in omega arith;
+      access = λ h k. let e = only_one next 5 k in omega arith;
+      return = λ h k. absurd (among next [] k);
+    }) before i is_code (keyed_reaches before reached) is_next
 
 onward : (at next : ℕ) (i : Instr) → slice_get small_code at ≡ Some i → IsIn next (next_of at i) → at < next
 onward at next i is_code is_next = each_instruction (λ n j. IsIn next (next_of n j) → n < next)
@@ -233,9 +234,10 @@ right_tasks = each_task (λ n t. IsRightTask small_graph n t)
       is_method = refl;
       is_entry = refl;
       variables = no_variable;
-      stands =
-          (record { before = 2; behind = refl; named = record { of = small_method; is_method = refl; is_code = refl }; only = only_cut },
-           record { name = codes "t"; is_name = refl; of = small_field; is_field = refl; is_kind = refl });
+      stands = (
+        record { before = 2; behind = refl; named = record { of = small_method; is_method = refl; is_code = refl }; only = only_cut },
+        record { name = codes "t"; is_name = refl; of = small_field; is_field = refl; is_kind = refl },
+      );
     })
 
 small_start_of : (n : ℕ) (m : GraphMethod) → IsMethod small_graph n m → HasStart small_graph n
@@ -276,9 +278,9 @@ in_tasks n t at i is = each_task (λ n t. ReachesCode small_graph t at i → IsO
 needs_carried : (n : ℕ) (t : Task) (m : GraphMethod) (v : ℕ) → IsTask small_graph n t → IsMethod small_graph t.method m → IsNeeded small_graph.tasks m.code v t.at → IsIn v t.vars
 needs_carried n t m v is_task is_method needed =
     each_task (λ n t. IsNeeded small_graph.tasks small_code v t.at → IsIn v t.vars)
-        (λ h. subst (λ (w : ℕ). IsIn w (0 ∷ [])) (sym (needed_where v 0 h).0) (IsFirst []))
-        (λ h. let e = (needed_where v 3 h).1 in absurd (omega arith))
-        n t is_task (subst (λ (o : GraphMethod). IsNeeded small_graph.tasks o.code v t.at) (the_method t.method m is_method) needed)
+    (λ h. subst (λ (w : ℕ). IsIn w (0 ∷ [])) (sym (needed_where v 0 h).0) (IsFirst []))
+    (λ h. let e = (needed_where v 3 h).1 in absurd (omega arith))
+    n t is_task (subst (λ (o : GraphMethod). IsNeeded small_graph.tasks o.code v t.at) (the_method t.method m is_method) needed)
 
 part_reached : (n : ℕ) (t : Task) (at join : ℕ) → ReachesCode small_graph t at (instr.Part join) → ⊥
 part_reached n t at join r = false≢true (sym (no_part t.method at (instr.Part join) (record { of = r.of; is_method = r.is_method; is_code = r.is_code })))
@@ -297,7 +299,7 @@ behind_turn = record {
 spends : (n at : ℕ) (i : Instr) → HasCode small_graph n at i → SpendsBefore i → IsBehindTurn small_graph n at
 spends n at i has = each_method (λ k m. slice_get m.code at ≡ Some i → SpendsBefore i → IsBehindTurn small_graph k at)
     (each_instruction (λ at i. SpendsBefore i → IsBehindTurn small_graph 0 at)
-        (record { load = λ h. absurd h; turn = λ h. absurd h; cut = λ h. behind_turn; key = λ h. absurd h; access = λ h. absurd h; return = λ h. absurd h }) at i)
+    (record { load = λ h. absurd h; turn = λ h. absurd h; cut = λ h. behind_turn; key = λ h. absurd h; access = λ h. absurd h; return = λ h. absurd h }) at i)
     n has.of has.is_method has.is_code
 
 pub small_is_verified : IsVerified small_graph

@@ -45,10 +45,10 @@ module _ (graph : Graph) (verified : IsVerified graph) (widths : List ℕ) (are 
       → GivesRight graph widths at from parts state (run_from (sender graph widths pick call visited) (slice_get graph.tasks k) key gathered turns vs state)
   task_item at from parts k j key gathered vs turns pick call visited state it keyed merges source there =
       subst (λ (o : Option Task). GivesRight graph widths at from parts state (run_from (sender graph widths pick call visited) o key gathered turns vs state)) (sym it.is)
-          (subst (λ (o : Option GraphMethod). GivesRight graph widths at from parts state (run_in (sender graph widths pick call visited) o it.t key gathered turns vs state)) (sym it.is_method)
-              (after_right graph verified widths are at from parts k it.t it.m key gathered (carried_variables it.m it.t vs) turns task pick call visited source
-                  (run (setting_of graph (calls_of graph.fields graph.methods) it.t.field key gathered) it.m.code (frame it.t.at [] (carried_variables it.m it.t vs) turns) state) state
-                  (task_runs graph verified k it.t it.m key gathered (carried_variables it.m it.t vs) turns task state there)))
+      (subst (λ (o : Option GraphMethod). GivesRight graph widths at from parts state (run_in (sender graph widths pick call visited) o it.t key gathered turns vs state)) (sym it.is_method)
+      (after_right graph verified widths are at from parts k it.t it.m key gathered (carried_variables it.m it.t vs) turns task pick call visited source
+      (run (setting_of graph (calls_of graph.fields graph.methods) it.t.field key gathered) it.m.code (frame it.t.at [] (carried_variables it.m it.t vs) turns) state) state
+      (task_runs graph verified k it.t it.m key gathered (carried_variables it.m it.t vs) turns task state there)))
     where
       task : TaskFits graph k it.t it.m key gathered (carried_variables it.m it.t vs) turns
       task = record {
@@ -78,8 +78,8 @@ module _ (graph : Graph) (verified : IsVerified graph) (widths : List ℕ) (are 
       let b = both_true (is_field graph (slice_get graph.tasks k) f) (takes graph kind.Keyed (slice_get graph.tasks k) turns vs) a.0 in
       let it = taking graph kind.Keyed (slice_get graph.tasks k) turns vs b.1 in
       task_item (port.Slot f n) (item.Work call k key turns vs) [] k kind.Keyed key [] vs turns pick call None state it (λ q. has_key n (width_of widths f) key a.1) (λ q. absurd (cc))
-          (record { of_call = refl; with_turns = refl; runs_method = method_is k kind.Keyed turns vs it; for = (tt, λ q. let r = sym it.of_kind ∙ q in absurd (cc)) })
-          (state_for graph it.t.field f state (field_is graph (slice_get graph.tasks k) it.t f it.is b.0) there)
+      (record { of_call = refl; with_turns = refl; runs_method = method_is k kind.Keyed turns vs it; for = (tt, λ q. let r = sym it.of_kind ∙ q in absurd (cc)) })
+      (state_for graph it.t.field f state (field_is graph (slice_get graph.tasks k) it.t f it.is b.0) there)
 
   pub instance_item : (f n call k turns : ℕ) (key : Option ℤ) (vs : List Val) (pick : ℕ) (state : State) → local_work graph f k key turns vs ≡ true → IsStateOf (slice_get graph.fields f) state
       → GivesRight graph widths (port.Inst f n) (item.Work call k key turns vs) [] state (run_from (sender graph widths pick call None) (slice_get graph.tasks k) key [] turns vs state)
@@ -88,8 +88,8 @@ module _ (graph : Graph) (verified : IsVerified graph) (widths : List ℕ) (are 
       let b = both_true (is_field graph (slice_get graph.tasks k) f) (takes graph kind.Local (slice_get graph.tasks k) turns vs) a.0 in
       let it = taking graph kind.Local (slice_get graph.tasks k) turns vs b.1 in
       task_item (port.Inst f n) (item.Work call k key turns vs) [] k kind.Local key [] vs turns pick call None state it (λ q. absurd (cc)) (λ q. absurd (cc))
-          (record { of_call = refl; with_turns = refl; runs_method = method_is k kind.Local turns vs it; for = (tt, λ q. let r = sym it.of_kind ∙ q in absurd (cc)) })
-          (state_for graph it.t.field f state (field_is graph (slice_get graph.tasks k) it.t f it.is b.0) there)
+      (record { of_call = refl; with_turns = refl; runs_method = method_is k kind.Local turns vs it; for = (tt, λ q. let r = sym it.of_kind ∙ q in absurd (cc)) })
+      (state_for graph it.t.field f state (field_is graph (slice_get graph.tasks k) it.t f it.is b.0) there)
 
   pub visit_item : (f n call k width turns : ℕ) (vs : List Val) (pick : ℕ) (state : State) → visiting graph f n k width turns vs ≡ true → IsStateOf (slice_get graph.fields f) state
       → GivesRight graph widths (port.Inst f n) (item.Visit call k width turns vs) [] state (run_from (sender graph widths pick call (visit width n k)) (slice_get graph.tasks k) None [] turns vs state)
@@ -98,13 +98,13 @@ module _ (graph : Graph) (verified : IsVerified graph) (widths : List ℕ) (are 
       let b = both_true (is_field graph (slice_get graph.tasks k) f) (takes graph kind.Visit (slice_get graph.tasks k) turns vs) a.0 in
       let it = taking graph kind.Visit (slice_get graph.tasks k) turns vs b.1 in
       task_item (port.Inst f n) (item.Visit call k width turns vs) [] k kind.Visit None [] vs turns pick call (visit width n k) state it (λ q. absurd (cc)) (λ q. absurd (cc))
-          (record {
-            of_call = refl;
-            with_turns = refl;
-            runs_method = method_is k kind.Visit turns vs it;
-            for = record { of_kind = it.of_kind; of_task = refl; instance = a.1; for_join = λ join left ws how q less. (refl, q, refl, refl, less) };
-          })
-          (state_for graph it.t.field f state (field_is graph (slice_get graph.tasks k) it.t f it.is b.0) there)
+      (record {
+        of_call = refl;
+        with_turns = refl;
+        runs_method = method_is k kind.Visit turns vs it;
+        for = record { of_kind = it.of_kind; of_task = refl; instance = a.1; for_join = λ join left ws how q less. (refl, q, refl, refl, less) };
+      })
+      (state_for graph it.t.field f state (field_is graph (slice_get graph.tasks k) it.t f it.is b.0) there)
 
   -- ---- the front
 
@@ -147,11 +147,11 @@ module _ (graph : Graph) (verified : IsVerified graph) (widths : List ℕ) (are 
       → GivesRight graph widths port.Front (item.Start call n args) [] state (started (sender graph widths pick call None) (Some m) args turns_at_start state)
   start_item call n args pick state m is start stands typed =
       subst (λ (k : ℕ). GivesRight graph widths port.Front (item.Start call n args) [] state (after_run (sender graph widths pick call None) (run (setting_of graph (calls_of graph.fields graph.methods) None None []) m.code (frame k [] (first_variables m args) turns_at_start) state))) stands.first
-          (subst (λ (o : Option (List ℕ)). GivesRight graph widths port.Front (item.Start call n args) [] state (after_run (sender graph widths pick call None) (run (setting_of graph (calls_of graph.fields graph.methods) o None []) m.code (frame start.of.at [] (first_variables m args) turns_at_start) state))) stands.no_field
-              (after_right graph verified widths are port.Front (item.Start call n args) [] start.number start.of m None [] (first_variables m args) turns_at_start (start_task n m args is start stands typed) pick call None
-                  (record { of_call = refl; with_turns = refl; runs_method = is; for = (tt, λ q. let r = sym start.is_start ∙ q in absurd (cc)) })
-                  (run (setting_of graph (calls_of graph.fields graph.methods) start.of.field None []) m.code (frame start.of.at [] (first_variables m args) turns_at_start) state) state
-                  (task_runs graph verified start.number start.of m None [] (first_variables m args) turns_at_start (start_task n m args is start stands typed) state (λ name own. absurd (none_some name (sym stands.no_field ∙ own))))))
+      (subst (λ (o : Option (List ℕ)). GivesRight graph widths port.Front (item.Start call n args) [] state (after_run (sender graph widths pick call None) (run (setting_of graph (calls_of graph.fields graph.methods) o None []) m.code (frame start.of.at [] (first_variables m args) turns_at_start) state))) stands.no_field
+      (after_right graph verified widths are port.Front (item.Start call n args) [] start.number start.of m None [] (first_variables m args) turns_at_start (start_task n m args is start stands typed) pick call None
+      (record { of_call = refl; with_turns = refl; runs_method = is; for = (tt, λ q. let r = sym start.is_start ∙ q in absurd (cc)) })
+      (run (setting_of graph (calls_of graph.fields graph.methods) start.of.field None []) m.code (frame start.of.at [] (first_variables m args) turns_at_start) state) state
+      (task_runs graph verified start.number start.of m None [] (first_variables m args) turns_at_start (start_task n m args is start stands typed) state (λ name own. absurd (none_some name (sym stands.no_field ∙ own))))))
 
   pub front_item : (call n : ℕ) (args : List Val) (pick : ℕ) (state : State) (o : Option GraphMethod) → slice_get graph.methods n ≡ o → starts o args ≡ true
       → GivesRight graph widths port.Front (item.Start call n args) [] state (started (sender graph widths pick call None) o args turns_at_start state)

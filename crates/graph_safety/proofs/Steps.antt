@@ -108,7 +108,6 @@ abbrev pub Has : ValueType → Option Val → Type 0
 Has t None = Unit {0}
 Has t (Some v) = type_of v ≡ t
 
-
 module _ (graph : Graph) (m : GraphMethod) (field : Option (List ℕ)) (gathered : List Val) where
   pub goes_on : (i : Instr) (at : ℕ) (stack variables next : List Val) (turns : ℕ) (after : Stack)
       → IsIn (suc at) (next_in_task at i) → ((v : ℕ) → writes i ≡ Some v → ⊥) → (is_turn i ≡ true → ⊥) → map type_of next ≡ after
@@ -168,16 +167,16 @@ module _ (graph : Graph) (m : GraphMethod) (field : Option (List ℕ)) (gathered
       → StepFits graph m field gathered i (frame at stack variables turns) after (machine.stored v x next (frame at stack variables turns))
   stores i at v x stack variables next turns after is_next its no_turn within has typed =
       subst (λ (b : Bool). StepFits graph m field gathered i (frame at stack variables turns) after (cond b (Some (Goes (frame (suc at) next (slice_set variables v x) turns))) None))
-          (sym (lt-ltb v (length variables) within))
-          (record {
-            next = is_next;
-            typed = typed;
-            as_many = length_set variables v x;
-            kept = set_keeps m gathered variables v x within has;
-            written = λ w e. subst (λ (k : ℕ). Holds m gathered (slice_set variables v x) k) (its w e) (set_holds m gathered variables v x within has);
-            turns = omega arith;
-            spent = λ e. absurd (no_turn e);
-          })
+      (sym (lt-ltb v (length variables) within))
+      (record {
+        next = is_next;
+        typed = typed;
+        as_many = length_set variables v x;
+        kept = set_keeps m gathered variables v x within has;
+        written = λ w e. subst (λ (k : ℕ). Holds m gathered (slice_set variables v x) k) (its w e) (set_holds m gathered variables v x within has);
+        turns = omega arith;
+        spent = λ e. absurd (no_turn e);
+      })
 
 -- ---- each instruction
 
@@ -251,7 +250,7 @@ module _ (graph : Graph) (m : GraphMethod) (calls : Calls) (field : Option (List
   load v (Some (One t)) None at stack variables turns after h e = absurd h
   load v (Some (One t)) (Some x) at stack variables turns after h e =
       pushes graph m field gathered (type_by t) (a_value (Some x)) (instr.Load v) at stack variables stack turns after (IsFirst []) none_some false≢true (value_of t x h)
-          (sym (on_top_by t (map type_of stack)) ∙ some_is (on_top (type_by t) (map type_of stack)) after e)
+      (sym (on_top_by t (map type_of stack)) ∙ some_is (on_top (type_by t) (map type_of stack)) after e)
 
   pub store : (v : ℕ) (at : ℕ) (stack variables : List Val) (turns : ℕ) (after : Stack) → length variables ≡ length m.vars
       → stored_type (type_of_variable m v) (map type_of stack) ≡ Some after → Does (instr.Store v) at stack variables turns after
@@ -287,9 +286,9 @@ module _ (graph : Graph) (m : GraphMethod) (calls : Calls) (field : Option (List
       let has : AnswerHas (Some of) (operation op a b) = subst (λ o. AnswerHas o (operation op a b)) given (operation_has op a b) in
       let value : of ≢ type.Void = λ q. not_binary op (operand_type t) (right_type op t) (is ∙ ap Some q) in
       subst (λ o. StepFits graph m field gathered (instr.Bin op t) (frame at (b ∷ a ∷ rest) variables turns) after (machine.answered o rest (frame at (b ∷ a ∷ rest) variables turns)))
-          (sym (operated_is op t a b left right))
-          (answers graph m field gathered of (operation op a b) (instr.Bin op t) at (b ∷ a ∷ rest) variables rest turns after (IsFirst []) none_some false≢true has
-              (ap (λ us. of ∷ us) others ∙ sym (on_top_is of types value) ∙ top))
+      (sym (operated_is op t a b left right))
+      (answers graph m field gathered of (operation op a b) (instr.Bin op t) at (b ∷ a ∷ rest) variables rest turns after (IsFirst []) none_some false≢true has
+      (ap (λ us. of ∷ us) others ∙ sym (on_top_is of types value) ∙ top))
 
   pub binary : (op : BinOp) (t : OperandType) (at : ℕ) (stack variables : List Val) (turns : ℕ) (after : Stack)
       → operated_type op (operand_type t) (right_type op t) (map type_of stack) ≡ Some after → Does (instr.Bin op t) at stack variables turns after
@@ -304,8 +303,8 @@ module _ (graph : Graph) (m : GraphMethod) (calls : Calls) (field : Option (List
       let p = pushing_is (unary_type op (type_of a)) (Some (map type_of rest)) after e in
       let value : p.of ≢ type.Void = λ q. not_unary op (type_of a) (p.is_type ∙ ap Some q) in
       pushes graph m field gathered p.of (unary_operation op a) (instr.Un op) at (a ∷ rest) variables rest turns after (IsFirst []) none_some false≢true
-          (subst (λ o. ValueHas o (unary_operation op a)) p.is_type (unary_has op a))
-          (ap (λ us. p.of ∷ us) (some_is (map type_of rest) p.stack p.is_stack) ∙ sym (on_top_is p.of p.stack value) ∙ p.top)
+      (subst (λ o. ValueHas o (unary_operation op a)) p.is_type (unary_has op a))
+      (ap (λ us. p.of ∷ us) (some_is (map type_of rest) p.stack p.is_stack) ∙ sym (on_top_is p.of p.stack value) ∙ p.top)
 
   pub cast : (t : Num) (at : ℕ) (stack variables : List Val) (turns : ℕ) (after : Stack)
       → types_after graph m (instr.Cast t) (map type_of stack) ≡ Some after → Does (instr.Cast t) at stack variables turns after

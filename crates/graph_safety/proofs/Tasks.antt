@@ -64,5 +64,5 @@ module _ (graph : Graph) (verified : IsVerified graph) (k : ℕ) (t : Task) (m :
 
   pub task_runs : (state : State) → IsStateFor graph t.field state
       → RunsRight graph verified t.method m (calls_of graph.fields graph.methods) t.field key gathered t.at turns t.vars on state
-          (run (setting_of graph (calls_of graph.fields graph.methods) t.field key gathered) m.code (frame t.at [] variables turns) state)
+      (run (setting_of graph (calls_of graph.fields graph.methods) t.field key gathered) m.code (frame t.at [] variables turns) state)
   task_runs state at = runs_right graph verified t.method m (calls_of graph.fields graph.methods) t.field key gathered t.at turns t.vars on (frame t.at [] variables turns) state first at

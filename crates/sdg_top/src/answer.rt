@@ -11,8 +11,8 @@ ghost use Rattle.sdg_top.specs.Due.{DueForTexts, AreValid, IsShort};
 
 use crate::accept::{FIRST, Judgement, Phase, judge};
 use crate::called::{form_of, let_go, resolved};
-use crate::lines::{InputText, class_refused, text_refused};
 use crate::graph::answer_graph;
+use crate::lines::{InputText, class_refused, text_refused};
 use crate::plain::answer_plain;
 use crate::replay::answer_replay;
 use crate::scheduled::answer_run;

@@ -25,7 +25,9 @@ pub(crate) enum Command<'a> {
         history: &'a String,
     },
     /// The graph of a class.
-    Graph { class: &'a String },
+    Graph {
+        class: &'a String,
+    },
 }
 
 /// Whether a word is this name.

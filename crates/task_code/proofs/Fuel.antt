@@ -83,7 +83,7 @@ agree_more zero s code f state some = absurd (false≢true (subst (λ (o : Optio
 agree_more (suc n) s code f state some =
     one_more (suc n) s code f state
     ∙ same_after (run_within n s code) (run_within (suc n) s code) state (perform s (slice_get code f.at) f) (agree_more n s code)
-        (subst (λ (o : Option Ran). IsSome o) (one_more n s code f state) some)
+    (subst (λ (o : Option Ran). IsSome o) (one_more n s code f state) some)
     ∙ sym (one_more n s code f state)
 
 -- ---- a step of a run
@@ -129,9 +129,9 @@ goes_on n s code f f' state e some =
 pub access_goes_on : (n : ℕ) (s : Setting) (code : List Instr) (f f' : Frame) (state state' : State) (m : Method) (args : List Val) (v : Val) → seen (perform s (slice_get code f.at) f) ≡ Some (Accesses m args f') → called m args state ≡ (outcome.Value v, state') → IsSome (run_within n s code f state) → GoesOn n s code f state (record { at = f'.at; stack = pushed_result v f'.stack; variables = f'.variables; turns = f'.turns }) state'
 access_goes_on n s code f f' state state' m args v e answer some =
     on_from n s code f (record { at = f'.at; stack = pushed_result v f'.stack; variables = f'.variables; turns = f'.turns }) state state'
-        (λ k. one_more k s code f state ∙ ap (after (run_within k s code) state) (seen_accesses (perform s (slice_get code f.at) f) m args f' e)
-            ∙ ap (after_access (run_within k s code) f') answer)
-        some
+    (λ k. one_more k s code f state ∙ ap (after (run_within k s code) state) (seen_accesses (perform s (slice_get code f.at) f) m args f' e)
+    ∙ ap (after_access (run_within k s code) f') answer)
+    some
 
 -- ---- ends
 
@@ -155,9 +155,9 @@ pub access_ended : (n : ℕ) (s : Setting) (code : List Instr) (f f' : Frame) (s
 access_ended zero s code f f' state state' m args how e answer stops some = absurd (false≢true (subst (λ (o : Option Ran). IsSome o) (none_within s code f state) some))
 access_ended (suc n) s code f f' state state' m args how e answer stops some =
     ap seen_ran (one_more n s code f state
-        ∙ ap (after (run_within n s code) state) (seen_accesses (perform s (slice_get code f.at) f) m args f' e)
-        ∙ ap (after_access (run_within n s code) f') answer
-        ∙ stops (run_within n s code))
+    ∙ ap (after (run_within n s code) state) (seen_accesses (perform s (slice_get code f.at) f) m args f' e)
+    ∙ ap (after_access (run_within n s code) f') answer
+    ∙ stops (run_within n s code))
 
 -- ---- what a run may do
 

@@ -70,9 +70,9 @@ with_part-length p (other ∷ others) = one_longer (nat_lt (instance_of p) (inst
 pub waits : (s : Sender) (width : ℕ) (p : Item) (others : List Item) (state : State) → suc (length others) < width → joined s width (with_part p others) state ≡ Some (record { output = Wait; state = state })
 waits s width p others state few =
     ap (λ (b : Bool). if b then Some (record { output = Wait; state = state }) else joined_from s (with_part p others) state)
-        (below (length (with_part p others)) width (omega (arith, with_part-length p others)))
+    (below (length (with_part p others)) width (omega (arith, with_part-length p others)))
 
 pub starts : (s : Sender) (width : ℕ) (p : Item) (others : List Item) (state : State) → width ≤ suc (length others) → joined s width (with_part p others) state ≡ joined_from s (with_part p others) state
 starts s width p others state all =
     ap (λ (b : Bool). if b then Some (record { output = Wait; state = state }) else joined_from s (with_part p others) state)
-        (above (length (with_part p others)) width (omega (arith, with_part-length p others)))
+    (above (length (with_part p others)) width (omega (arith, with_part-length p others)))

@@ -30,7 +30,7 @@ not_set s v f element index was mid rest top below within there outside some =
     let stack : f.stack ≡ element ∷ index ∷ rest = cc in
     let found = slice_get_read f.variables (length f.variables) v was refl within there in
     let is : perform_on s (instr.VectorSet v) f.stack f ≡ element_set v (a_value (Some was)) index element rest f =
-        ap (λ (vs : List Val). perform_on s (instr.VectorSet v) vs f) stack ∙ ap (λ (o : Option Val). element_set v (a_value o) index element rest f) found in
+    ap (λ (vs : List Val). perform_on s (instr.VectorSet v) vs f) stack ∙ ap (λ (o : Option Val). element_set v (a_value o) index element rest f) found in
     is ∙ element_outside v was index element rest f outside (subst (λ (o : Option Performed). IsSome o) is some)
 
 pub stays : (xs : List Val) (v : ℕ) (was new : Val) → v < length xs → was ≡ get_or xs v was → new ≡ was → set xs v new ≡ xs

@@ -66,12 +66,7 @@ impl Engine<'_> {
     }
 
     /// Pops the arguments of a method of the field that is to be called.
-    pub fn access(
-        &self,
-        name: &Name,
-        method: Method,
-        frame: &mut Frame,
-    ) -> Result<Step, AllocError>
+    pub fn access(&self, name: &Name, method: Method, frame: &mut Frame) -> Result<Step, AllocError>
         requires { Can self.now (instr.Access name.now method) frame.old }
         ensures { IfOk result (λ step. Does self.now (instr.Access name.now method) frame.old frame.new step) }
     {

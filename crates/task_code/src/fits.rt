@@ -248,8 +248,14 @@ pub fn item_fits(graph: &Graph, widths: &Widths, port: Port, item: &Item) -> boo
                 ..
             },
         ) => {
-            takes_at(graph, TaskKind::Keyed, field, *task, *turns, vars.as_slice())
-                && is_key_of(graph, widths, field, slot, *key)
+            takes_at(
+                graph,
+                TaskKind::Keyed,
+                field,
+                *task,
+                *turns,
+                vars.as_slice(),
+            ) && is_key_of(graph, widths, field, slot, *key)
         }
         (
             Port::Inst { field, .. },
@@ -261,8 +267,14 @@ pub fn item_fits(graph: &Graph, widths: &Widths, port: Port, item: &Item) -> boo
                 ..
             },
         ) => {
-            takes_at(graph, TaskKind::Local, field, *task, *turns, vars.as_slice())
-                && key.is_none()
+            takes_at(
+                graph,
+                TaskKind::Local,
+                field,
+                *task,
+                *turns,
+                vars.as_slice(),
+            ) && key.is_none()
         }
         (
             Port::Inst { field, number },
@@ -274,8 +286,14 @@ pub fn item_fits(graph: &Graph, widths: &Widths, port: Port, item: &Item) -> boo
                 ..
             },
         ) => {
-            takes_at(graph, TaskKind::Visit, field, *task, *turns, vars.as_slice())
-                && is_instance(*width, number)
+            takes_at(
+                graph,
+                TaskKind::Visit,
+                field,
+                *task,
+                *turns,
+                vars.as_slice(),
+            ) && is_instance(*width, number)
         }
         (
             Port::Join,

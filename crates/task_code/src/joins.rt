@@ -35,11 +35,7 @@ pub fn lowest<'p>(part: &'p Item, others: &'p [Item]) -> &'p Item
 }
 
 /// Adds what a part brought, or answers its outcome where that is no value.
-fn gather_one(
-    alloc: Global,
-    part: &Item,
-    values: &mut Vals,
-) -> Result<Option<Outcome>, AllocError>
+fn gather_one(alloc: Global, part: &Item, values: &mut Vals) -> Result<Option<Outcome>, AllocError>
     ensures { IfOk result (λ other. (parts : List declared.Item) → after values.old (gathered_of (part.now ∷ parts)) ≡ with_others other values.new (gathered_of parts)) }
 {
     match part {

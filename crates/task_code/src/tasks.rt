@@ -159,7 +159,10 @@ impl Sender<'_> {
     {
         match lowest(part, others) {
             Item::Part {
-                task, turns, vars, ..
+                task,
+                turns,
+                vars,
+                ..
             } => {
                 let mut values = Items::new(self.alloc);
                 match gather(self.alloc, part, others, &mut values)? {
@@ -248,7 +251,10 @@ fn given<A: Access>(
         (
             Port::Inst { .. },
             Item::Visit {
-                task, turns, vars, ..
+                task,
+                turns,
+                vars,
+                ..
             },
         ) => sender.run_from(*task, None, &[], *turns, vars.as_slice(), state),
         (Port::Join, Item::Part { width, .. }) => {

@@ -11,7 +11,9 @@ pub(crate) fn read(alloc: Global, text: &str) -> Result<String, AllocError> {
         Ok(graph) => {
             let is_same = write_graph(alloc, &graph)?.as_slice() == bytes.as_slice();
             let (methods, tasks) = (graph.methods.len(), graph.tasks.len());
-            format!(in alloc; "a graph of {methods} methods and {tasks} tasks, written so: {is_same}")
+            format!(in alloc;
+                "a graph of {methods} methods and {tasks} tasks, written so: {is_same}"
+            )
         }
         Err(GraphError::NotJson) => String::from_str(alloc, "no JSON"),
         Err(GraphError::NotGraph { path }) => {

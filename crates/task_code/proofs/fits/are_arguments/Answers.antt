@@ -11,16 +11,16 @@ returns-then-not-has_type_at c =
     let m = c.args.method.now in
     let n = c.loop-number.number in
     stops m (range_with_len n (m.params - n)) (range_with_len (n + 1) (m.params - (n + 1))) n n c.args.values.now (has_types m (parameters m) c.args.values.now)
-        (range_more n m.params c.loop-number-test.true) c.loop-number.invariant
-        (ap (λ (o : Option Val). has_type_at m n o) (sym c.at-value.ensures) ∙ sym c.has_type_at.ensures ∙ c.if-not-has_type_at.true)
+    (range_more n m.params c.loop-number-test.true) c.loop-number.invariant
+    (ap (λ (o : Option Val). has_type_at m n o) (sym c.at-value.ensures) ∙ sym c.has_type_at.ensures ∙ c.if-not-has_type_at.true)
 
 pub loop-number-preserved : goal.loop-number-preserved
 loop-number-preserved c =
     let m = c.args.method.now in
     let n = c.loop-number.number in
     passes m (range_with_len n (m.params - n)) (range_with_len (n + 1) (m.params - (n + 1))) n n c.args.values.now (has_types m (parameters m) c.args.values.now)
-        (range_more n m.params c.loop-number-test.true) c.loop-number.invariant
-        (ap (λ (o : Option Val). has_type_at m n o) (sym c.at-value.ensures) ∙ sym c.has_type_at.ensures ∙ c.if-not-has_type_at.false)
+    (range_more n m.params c.loop-number-test.true) c.loop-number.invariant
+    (ap (λ (o : Option Val). has_type_at m n o) (sym c.at-value.ensures) ∙ sym c.has_type_at.ensures ∙ c.if-not-has_type_at.false)
 
 pub returns : goal.returns
 returns c =
@@ -28,4 +28,4 @@ returns c =
     let n = c.loop-number.number in
     c.is_absent.ensures ∙ ap is_absent c.at-more.ensures
     ∙ ends m (range_with_len n (m.params - n)) n m.params c.args.values.now (has_types m (parameters m) c.args.values.now)
-        (range_all n m.params c.loop-number-test.false) (omega arith) c.loop-number.invariant
+    (range_all n m.params c.loop-number-test.false) (omega arith) c.loop-number.invariant

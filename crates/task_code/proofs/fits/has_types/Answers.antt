@@ -11,20 +11,20 @@ returns-then-not-has_type_at c =
     let m = c.args.method.now in
     let n = get_or c.args.numbers.now c.loop-index.index 0 in
     stops m (drop c.loop-index.index c.args.numbers.now) (drop (c.loop-index.index + 1) c.args.numbers.now) n c.loop-index.index c.args.values.now (has_types m c.args.numbers.now c.args.values.now)
-        (drop_more c.args.numbers.now c.loop-index.index 0 c.loop-index-test.true) c.loop-index.invariant
-        (ap (λ (o : Option Val). has_type_at m n o) (sym c.at-value.ensures) ∙ sym c.has_type_at.ensures ∙ c.if-not-has_type_at.true)
+    (drop_more c.args.numbers.now c.loop-index.index 0 c.loop-index-test.true) c.loop-index.invariant
+    (ap (λ (o : Option Val). has_type_at m n o) (sym c.at-value.ensures) ∙ sym c.has_type_at.ensures ∙ c.if-not-has_type_at.true)
 
 pub loop-index-preserved : goal.loop-index-preserved
 loop-index-preserved c =
     let m = c.args.method.now in
     let n = get_or c.args.numbers.now c.loop-index.index 0 in
     passes m (drop c.loop-index.index c.args.numbers.now) (drop (c.loop-index.index + 1) c.args.numbers.now) n c.loop-index.index c.args.values.now (has_types m c.args.numbers.now c.args.values.now)
-        (drop_more c.args.numbers.now c.loop-index.index 0 c.loop-index-test.true) c.loop-index.invariant
-        (ap (λ (o : Option Val). has_type_at m n o) (sym c.at-value.ensures) ∙ sym c.has_type_at.ensures ∙ c.if-not-has_type_at.false)
+    (drop_more c.args.numbers.now c.loop-index.index 0 c.loop-index-test.true) c.loop-index.invariant
+    (ap (λ (o : Option Val). has_type_at m n o) (sym c.at-value.ensures) ∙ sym c.has_type_at.ensures ∙ c.if-not-has_type_at.false)
 
 pub returns : goal.returns
 returns c =
     let m = c.args.method.now in
     c.is_absent.ensures ∙ ap is_absent c.at-more.ensures
     ∙ ends m (drop c.loop-index.index c.args.numbers.now) c.loop-index.index (length c.args.numbers.now) c.args.values.now (has_types m c.args.numbers.now c.args.values.now)
-        (drop_all c.loop-index.index c.args.numbers.now c.loop-index-test.false) (omega arith) c.loop-index.invariant
+    (drop_all c.loop-index.index c.args.numbers.now c.loop-index-test.false) (omega arith) c.loop-index.invariant

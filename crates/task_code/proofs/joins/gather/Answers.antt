@@ -7,6 +7,6 @@ use Rattle.task_code.proofs.joins.gather.Goals as goal
 pub returns : goal.returns
 returns c =
     IfOk-weaker c.gather_one-2.result _ _
-        (λ other one. last_gathered c.args.part.now c.args.others.now c.loop-at.at c.loop-at.values c.gather_one-2.new.values
-            (after c.args.values.now (gathered_of (with_part c.args.part.now c.args.others.now))) other c.loop-at-test.false c.loop-at.invariant one)
-        c.gather_one-2.ensures
+    (λ other one. last_gathered c.args.part.now c.args.others.now c.loop-at.at c.loop-at.values c.gather_one-2.new.values
+    (after c.args.values.now (gathered_of (with_part c.args.part.now c.args.others.now))) other c.loop-at-test.false c.loop-at.invariant one)
+    c.gather_one-2.ensures

@@ -26,7 +26,7 @@ loop-frame-smaller-in-Go g c =
     let some = some_along _ _ (sym c.loop-frame.invariant) c.requires in
     let there = slice_get_read c.args.code.now (length c.args.code.now) c.loop-frame.frame.at c.index-code-frame.result refl c.loop-frame-test.true c.index-code-frame.is in
     let on = goes_on (machine.most_steps c.args.code.now c.args.frame.now.turns) s c.args.code.now f (frame_of c.step.new.frame) (g.A.Access.held c.loop-frame.state)
-        (ap (λ (o : Option Instr). seen (machine.perform s o f)) there ∙ c.in_ok-step.ensures ∙ ap (λ (to : Move). seen (moves to c.step.new.frame)) c.in-Go.is) some in
+    (ap (λ (o : Option Instr). seen (machine.perform s o f)) there ∙ c.in_ok-step.ensures ∙ ap (λ (to : Move). seen (moves to c.step.new.frame)) c.in-Go.is) some in
     on.fewer
 
 pub loop-frame-preserved-in-Go : goal.loop-frame-preserved-in-Go
@@ -36,7 +36,7 @@ loop-frame-preserved-in-Go g c =
     let some = some_along _ _ (sym c.loop-frame.invariant) c.requires in
     let there = slice_get_read c.args.code.now (length c.args.code.now) c.loop-frame.frame.at c.index-code-frame.result refl c.loop-frame-test.true c.index-code-frame.is in
     let on = goes_on (machine.most_steps c.args.code.now c.args.frame.now.turns) s c.args.code.now f (frame_of c.step.new.frame) (g.A.Access.held c.loop-frame.state)
-        (ap (λ (o : Option Instr). seen (machine.perform s o f)) there ∙ c.in_ok-step.ensures ∙ ap (λ (to : Move). seen (moves to c.step.new.frame)) c.in-Go.is) some in
+    (ap (λ (o : Option Instr). seen (machine.perform s o f)) there ∙ c.in_ok-step.ensures ∙ ap (λ (to : Move). seen (moves to c.step.new.frame)) c.in-Go.is) some in
     on.same ∙ c.loop-frame.invariant
 
 pub returns-in-Throws : goal.returns-in-Throws
@@ -47,8 +47,8 @@ returns-in-Throws g c =
     let there = slice_get_read c.args.code.now (length c.args.code.now) c.loop-frame.frame.at c.index-code-frame.result refl c.loop-frame-test.true c.index-code-frame.is in
     ap seen_ran (sym c.loop-frame.invariant)
     ∙ access_ended (machine.most_steps c.args.code.now c.args.frame.now.turns) s c.args.code.now f (frame_of c.step.new.frame) (g.A.Access.held c.loop-frame.state) (g.A.Access.held c.call.new.self) _ _ (outcome.Throws c.in-Throws.exception)
-        (ap (λ (o : Option Instr). seen (machine.perform s o f)) there ∙ c.in_ok-step.ensures ∙ ap (λ (to : Move). seen (moves to c.step.new.frame)) c.in-Access.is)
-        (c.in_ok-value-in-Access.ensures.ok ∙ ap (λ (how : Outcome). (how, g.A.Access.held c.call.new.self)) c.in-Throws.is) (λ next. refl) some
+    (ap (λ (o : Option Instr). seen (machine.perform s o f)) there ∙ c.in_ok-step.ensures ∙ ap (λ (to : Move). seen (moves to c.step.new.frame)) c.in-Access.is)
+    (c.in_ok-value-in-Access.ensures.ok ∙ ap (λ (how : Outcome). (how, g.A.Access.held c.call.new.self)) c.in-Throws.is) (λ next. refl) some
 
 pub returns-in-Limit : goal.returns-in-Limit
 returns-in-Limit g c =
@@ -58,8 +58,8 @@ returns-in-Limit g c =
     let there = slice_get_read c.args.code.now (length c.args.code.now) c.loop-frame.frame.at c.index-code-frame.result refl c.loop-frame-test.true c.index-code-frame.is in
     ap seen_ran (sym c.loop-frame.invariant)
     ∙ access_ended (machine.most_steps c.args.code.now c.args.frame.now.turns) s c.args.code.now f (frame_of c.step.new.frame) (g.A.Access.held c.loop-frame.state) (g.A.Access.held c.call.new.self) _ _ outcome.Limit
-        (ap (λ (o : Option Instr). seen (machine.perform s o f)) there ∙ c.in_ok-step.ensures ∙ ap (λ (to : Move). seen (moves to c.step.new.frame)) c.in-Access.is)
-        (c.in_ok-value-in-Access.ensures.ok ∙ ap (λ (how : Outcome). (how, g.A.Access.held c.call.new.self)) c.in-Limit.is) (λ next. refl) some
+    (ap (λ (o : Option Instr). seen (machine.perform s o f)) there ∙ c.in_ok-step.ensures ∙ ap (λ (to : Move). seen (moves to c.step.new.frame)) c.in-Access.is)
+    (c.in_ok-value-in-Access.ensures.ok ∙ ap (λ (how : Outcome). (how, g.A.Access.held c.call.new.self)) c.in-Limit.is) (λ next. refl) some
 
 pub loop-frame-smaller : goal.loop-frame-smaller
 loop-frame-smaller g c =
@@ -69,10 +69,10 @@ loop-frame-smaller g c =
     let some = some_along _ _ (sym c.loop-frame.invariant) c.requires in
     let there = slice_get_read c.args.code.now (length c.args.code.now) c.loop-frame.frame.at c.index-code-frame.result refl c.loop-frame-test.true c.index-code-frame.is in
     let on = access_goes_on n s c.args.code.now f (frame_of c.step.new.frame) (g.A.Access.held c.loop-frame.state) (g.A.Access.held c.call.new.self) _ _ c.in-Value.value
-        (ap (λ (o : Option Instr). seen (machine.perform s o f)) there ∙ c.in_ok-step.ensures ∙ ap (λ (to : Move). seen (moves to c.step.new.frame)) c.in-Access.is)
-        (c.in_ok-value-in-Access.ensures.ok ∙ ap (λ (how : Outcome). (how, g.A.Access.held c.call.new.self)) c.in-Value.is) some in
+    (ap (λ (o : Option Instr). seen (machine.perform s o f)) there ∙ c.in_ok-step.ensures ∙ ap (λ (to : Move). seen (moves to c.step.new.frame)) c.in-Access.is)
+    (c.in_ok-value-in-Access.ensures.ok ∙ ap (λ (how : Outcome). (how, g.A.Access.held c.call.new.self)) c.in-Value.is) some in
     subst (λ (stack : List Val). left n s c.args.code.now (record { at = c.step.new.frame.at; stack = stack; variables = c.step.new.frame.variables.items; turns = c.step.new.frame.turns }) (g.A.Access.held c.call.new.self) < left n s c.args.code.now f (g.A.Access.held c.loop-frame.state))
-        (sym c.in_ok-push_result-in-Value.ensures) on.fewer
+    (sym c.in_ok-push_result-in-Value.ensures) on.fewer
 
 pub loop-frame-preserved : goal.loop-frame-preserved
 loop-frame-preserved g c =
@@ -82,8 +82,8 @@ loop-frame-preserved g c =
     let some = some_along _ _ (sym c.loop-frame.invariant) c.requires in
     let there = slice_get_read c.args.code.now (length c.args.code.now) c.loop-frame.frame.at c.index-code-frame.result refl c.loop-frame-test.true c.index-code-frame.is in
     let on = access_goes_on n s c.args.code.now f (frame_of c.step.new.frame) (g.A.Access.held c.loop-frame.state) (g.A.Access.held c.call.new.self) _ _ c.in-Value.value
-        (ap (λ (o : Option Instr). seen (machine.perform s o f)) there ∙ c.in_ok-step.ensures ∙ ap (λ (to : Move). seen (moves to c.step.new.frame)) c.in-Access.is)
-        (c.in_ok-value-in-Access.ensures.ok ∙ ap (λ (how : Outcome). (how, g.A.Access.held c.call.new.self)) c.in-Value.is) some in
+    (ap (λ (o : Option Instr). seen (machine.perform s o f)) there ∙ c.in_ok-step.ensures ∙ ap (λ (to : Move). seen (moves to c.step.new.frame)) c.in-Access.is)
+    (c.in_ok-value-in-Access.ensures.ok ∙ ap (λ (how : Outcome). (how, g.A.Access.held c.call.new.self)) c.in-Value.is) some in
     ap (λ (stack : List Val). machine.run_within n s c.args.code.now (record { at = c.step.new.frame.at; stack = stack; variables = c.step.new.frame.variables.items; turns = c.step.new.frame.turns }) (g.A.Access.held c.call.new.self)) c.in_ok-push_result-in-Value.ensures
     ∙ on.same ∙ c.loop-frame.invariant
 
@@ -95,11 +95,11 @@ returns-in-End g c =
     let there = slice_get_read c.args.code.now (length c.args.code.now) c.loop-frame.frame.at c.index-code-frame.result refl c.loop-frame-test.true c.index-code-frame.is in
     ap seen_ran (sym c.loop-frame.invariant)
     ∙ ended (machine.most_steps c.args.code.now c.args.frame.now.turns) s c.args.code.now f (seen_frame (ending_of c.in-End.ending) (frame_of c.step.new.frame)) (g.A.Access.held c.loop-frame.state) (ending_of c.in-End.ending)
-        (ap (λ (o : Option Instr). seen (machine.perform s o f)) there ∙ c.in_ok-step.ensures ∙ ap (λ (to : Move). seen (moves to c.step.new.frame)) c.in-End.is) some
+    (ap (λ (o : Option Instr). seen (machine.perform s o f)) there ∙ c.in_ok-step.ensures ∙ ap (λ (to : Move). seen (moves to c.step.new.frame)) c.in-End.is) some
 
 pub unreachable-requires : goal.unreachable-requires
 unreachable-requires g c =
     let s = setting_of c.args.engine.now in
     none_is_not _ (ap (λ (o : Option Instr). machine.perform s o (frame_of c.loop-frame.frame)) (slice_get_past c.args.code.now c.loop-frame.frame.at c.loop-frame-test.false))
-        (performs (machine.most_steps c.args.code.now c.args.frame.now.turns) s c.args.code.now (frame_of c.loop-frame.frame) (g.A.Access.held c.loop-frame.state)
-            (some_along _ _ (sym c.loop-frame.invariant) c.requires))
+    (performs (machine.most_steps c.args.code.now c.args.frame.now.turns) s c.args.code.now (frame_of c.loop-frame.frame) (g.A.Access.held c.loop-frame.state)
+    (some_along _ _ (sym c.loop-frame.invariant) c.requires))

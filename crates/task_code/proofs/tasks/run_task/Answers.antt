@@ -12,9 +12,9 @@ given-requires-clause-right g c =
 pub returns-clause-output : goal.returns-clause-output
 returns-clause-output g c =
     (what_is_given_fits c.args.graph.now c.args.widths.now c.args.port c.args.item.now c.args.parts.now (g.A.Access.held c.args.state.now) c.args.pick (record { output = output_of c.in_ok-out.out; state = g.A.Access.held c.given.new.state })
-        c.requires.graph c.requires.widths c.requires.item c.requires.parts c.requires.state c.in_ok-out.ensures).0
+    c.requires.graph c.requires.widths c.requires.item c.requires.parts c.requires.state c.in_ok-out.ensures).0
 
 pub returns-clause-class : goal.returns-clause-class
 returns-clause-class g c =
     (what_is_given_fits c.args.graph.now c.args.widths.now c.args.port c.args.item.now c.args.parts.now (g.A.Access.held c.args.state.now) c.args.pick (record { output = output_of c.in_ok-out.out; state = g.A.Access.held c.given.new.state })
-        c.requires.graph c.requires.widths c.requires.item c.requires.parts c.requires.state c.in_ok-out.ensures).1
+    c.requires.graph c.requires.widths c.requires.item c.requires.parts c.requires.state c.in_ok-out.ensures).1

@@ -12,6 +12,6 @@ returns-then-at-values c =
 pub loop-at-preserved : goal.loop-at-preserved
 loop-at-preserved c =
     set_all-next c.args.numbers.now c.args.values.now c.loop-at.variables.items _ (set_all c.args.numbers.now c.args.values.now c.args.variables.now.items) c.loop-at.at c.index-values-at.result
-        c.loop-at-test.true c.if-at-values.false c.index-values-at.is
-        (c.set_variable.ensures ∙ ap (λ (x : Val). set c.loop-at.variables.items (get_or c.args.numbers.now c.loop-at.at 0) x) c.in_ok-value.ensures)
-        c.loop-at.invariant
+    c.loop-at-test.true c.if-at-values.false c.index-values-at.is
+    (c.set_variable.ensures ∙ ap (λ (x : Val). set c.loop-at.variables.items (get_or c.args.numbers.now c.loop-at.at 0) x) c.in_ok-value.ensures)
+    c.loop-at.invariant

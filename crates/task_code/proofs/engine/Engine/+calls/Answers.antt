@@ -39,9 +39,13 @@ run_method-step-requires t c =
     let s = setting_of c.args.self.now in
     let f = frame_of c.loop-frame.frame in
     let some = some_along _ _ (sym c.loop-frame.invariant) c.requires.right in
-    let there = slice_get_read c.args.code.now (length c.args.code.now) c.loop-frame.frame.at c.index-code-frame.result refl c.loop-frame-test.true c.index-code-frame.is in
-    (omega (arith, c.decreases), (omega arith,
-        some_along _ _ (ap (λ (o : Option Instr). machine.perform s o f) there) (performs (machine.most_steps c.args.code.now c.args.frame.now.turns) s c.args.code.now f machine.no_state some)))
+    let there = slice_get_read c.args.code.now (length c.args.code.now) c.loop-frame.frame.at c.index-code-frame.result refl c.loop-frame-test.true c.index-code-frame.is in (
+      omega (arith, c.decreases),
+      (
+        omega arith,
+        some_along _ _ (ap (λ (o : Option Instr). machine.perform s o f) there) (performs (machine.most_steps c.args.code.now c.args.frame.now.turns) s c.args.code.now f machine.no_state some),
+      ),
+    )
 
 pub run_method-loop-frame-smaller : goal.run_method-loop-frame-smaller
 run_method-loop-frame-smaller t c =
@@ -50,7 +54,7 @@ run_method-loop-frame-smaller t c =
     let some = some_along _ _ (sym c.loop-frame.invariant) c.requires.right in
     let there = slice_get_read c.args.code.now (length c.args.code.now) c.loop-frame.frame.at c.index-code-frame.result refl c.loop-frame-test.true c.index-code-frame.is in
     let on = goes_on (machine.most_steps c.args.code.now c.args.frame.now.turns) s c.args.code.now f (frame_of c.step.new.frame) machine.no_state
-        (ap (λ (o : Option Instr). seen (machine.perform s o f)) there ∙ c.in_ok-step.ensures ∙ ap (λ (to : Move). seen (moves to c.step.new.frame)) c.in-Go.is) some in
+    (ap (λ (o : Option Instr). seen (machine.perform s o f)) there ∙ c.in_ok-step.ensures ∙ ap (λ (to : Move). seen (moves to c.step.new.frame)) c.in-Go.is) some in
     on.fewer
 
 pub run_method-loop-frame-preserved : goal.run_method-loop-frame-preserved
@@ -60,7 +64,7 @@ run_method-loop-frame-preserved t c =
     let some = some_along _ _ (sym c.loop-frame.invariant) c.requires.right in
     let there = slice_get_read c.args.code.now (length c.args.code.now) c.loop-frame.frame.at c.index-code-frame.result refl c.loop-frame-test.true c.index-code-frame.is in
     let on = goes_on (machine.most_steps c.args.code.now c.args.frame.now.turns) s c.args.code.now f (frame_of c.step.new.frame) machine.no_state
-        (ap (λ (o : Option Instr). seen (machine.perform s o f)) there ∙ c.in_ok-step.ensures ∙ ap (λ (to : Move). seen (moves to c.step.new.frame)) c.in-Go.is) some in
+    (ap (λ (o : Option Instr). seen (machine.perform s o f)) there ∙ c.in_ok-step.ensures ∙ ap (λ (to : Move). seen (moves to c.step.new.frame)) c.in-Go.is) some in
     on.same ∙ c.loop-frame.invariant
 
 pub run_method-returns-in-End : goal.run_method-returns-in-End
@@ -71,31 +75,33 @@ run_method-returns-in-End t c =
     let there = slice_get_read c.args.code.now (length c.args.code.now) c.loop-frame.frame.at c.index-code-frame.result refl c.loop-frame-test.true c.index-code-frame.is in
     ap seen_ran (sym c.loop-frame.invariant)
     ∙ ended (machine.most_steps c.args.code.now c.args.frame.now.turns) s c.args.code.now f (seen_frame (ending_of c.in-End.ending) (frame_of c.step.new.frame)) machine.no_state (ending_of c.in-End.ending)
-        (ap (λ (o : Option Instr). seen (machine.perform s o f)) there ∙ c.in_ok-step.ensures ∙ ap (λ (to : Move). seen (moves to c.step.new.frame)) c.in-End.is) some
+    (ap (λ (o : Option Instr). seen (machine.perform s o f)) there ∙ c.in_ok-step.ensures ∙ ap (λ (to : Move). seen (moves to c.step.new.frame)) c.in-End.is) some
 
 pub run_method-unreachable-requires-2 : goal.run_method-unreachable-requires-2
 run_method-unreachable-requires-2 t c =
     let s = setting_of c.args.self.now in
     none_is_not _ (ap (λ (o : Option Instr). machine.perform s o (frame_of c.loop-frame.frame)) (slice_get_past c.args.code.now c.loop-frame.frame.at c.loop-frame-test.false))
-        (performs (machine.most_steps c.args.code.now c.args.frame.now.turns) s c.args.code.now (frame_of c.loop-frame.frame) machine.no_state
-            (some_along _ _ (sym c.loop-frame.invariant) c.requires.right))
+    (performs (machine.most_steps c.args.code.now c.args.frame.now.turns) s c.args.code.now (frame_of c.loop-frame.frame) machine.no_state
+    (some_along _ _ (sym c.loop-frame.invariant) c.requires.right))
 
 pub run_method-unreachable-requires : goal.run_method-unreachable-requires
 run_method-unreachable-requires t c =
     let s = setting_of c.args.self.now in
     let f = frame_of c.loop-frame.frame in
     no_access s c.index-code-frame.result f.stack f (frame_of c.step.new.frame) _ _ c.requires.no_field
-        (c.in_ok-step.ensures ∙ ap (λ (to : Move). seen (moves to c.step.new.frame)) c.in-Access.is)
+    (c.in_ok-step.ensures ∙ ap (λ (to : Move). seen (moves to c.step.new.frame)) c.in-Access.is)
 
 pub step-call_method-requires : goal.step-call_method-requires
 step-call_method-requires t c =
-    let s = setting_of c.args.self.now in
-    (omega (arith, c.decreases),
-        can_call _ _ c.perform.new.frame.stack _ (c.in_ok-perform.ensures ∙ ap (λ (to : Step). seen (leads s c.args.frame.now.at to c.perform.new.frame)) c.in-Call.is) c.requires.right)
+    let s = setting_of c.args.self.now in (
+      omega (arith, c.decreases),
+      can_call _ _ c.perform.new.frame.stack _ (c.in_ok-perform.ensures ∙ ap (λ (to : Step). seen (leads s c.args.frame.now.at to c.perform.new.frame)) c.in-Call.is) c.requires.right,
+    )
 
 pub step-call_method-requires-in-Merge : goal.step-call_method-requires-in-Merge
 step-call_method-requires-in-Merge t c =
     let s = setting_of c.args.self.now in
-    let called = can_call _ _ c.perform.new.frame.stack _ (c.in_ok-perform.ensures ∙ ap (λ (to : Step). seen (leads s c.args.frame.now.at to c.perform.new.frame)) c.in-Merge.is) c.requires.right in
-    (omega (arith, c.decreases),
-        some_along _ _ (ap (λ (args : List Val). calling c.args.self.now c.in-Merge.method args c.args.self.now.gathered.now c.perform.new.frame.turns) (sym c.in_ok-args-in-Merge.ensures)) called)
+    let called = can_call _ _ c.perform.new.frame.stack _ (c.in_ok-perform.ensures ∙ ap (λ (to : Step). seen (leads s c.args.frame.now.at to c.perform.new.frame)) c.in-Merge.is) c.requires.right in (
+      omega (arith, c.decreases),
+      some_along _ _ (ap (λ (args : List Val). calling c.args.self.now c.in-Merge.method args c.args.self.now.gathered.now c.perform.new.frame.turns) (sym c.in_ok-args-in-Merge.ensures)) called,
+    )

@@ -15,7 +15,7 @@ returns c =
     let within = is_variable (setting_of c.args.self.now) c.args.variable f c.pop-element.result c.pop-index.result c.pop-element.new.self c.pop-index.new.self c.pop-element.ensures c.pop-index.ensures c.requires in
     let outside : with_element c.index_mut.result.now c.pop-index.result c.pop-element.result ≡ None = grind (arith, common_steps, c.set_element.ensures.set, c.if-set_element.false) in
     let e = not_set (setting_of c.args.self.now) c.args.variable f c.pop-element.result c.pop-index.result c.index_mut.result.now c.pop-element.new.self c.pop-index.new.self
-        c.pop-element.ensures c.pop-index.ensures within c.index_mut.ensures.value outside c.requires in
+    c.pop-element.ensures c.pop-index.ensures within c.index_mut.ensures.value outside c.requires in
     let same = stays f.variables c.args.variable c.index_mut.result.now c.set_element.new.vector within c.index_mut.ensures.value (c.set_element.ensures.unset c.if-set_element.false) in
     ap seen e
     ∙ ap (λ (vs : List Val). Some (machine.Ends (machine.Stopped (outcome.Throws exn.Index)) (record { at = 0; stack = []; variables = vs; turns = f.turns }))) (sym same)

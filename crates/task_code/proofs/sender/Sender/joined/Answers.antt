@@ -16,5 +16,5 @@ joined_from-requires g c =
 pub returns : goal.returns
 returns g c =
     IfOk-weaker c.joined_from.result _ _
-        (λ out given. starts (sender_of c.args.self.now) c.args.width c.args.part.now c.args.others.now (g.A.Access.held c.args.state.now) (omega (arith, c.saturating_add.ensures, c.from.ensures)) ∙ given)
-        c.joined_from.ensures
+    (λ out given. starts (sender_of c.args.self.now) c.args.width c.args.part.now c.args.others.now (g.A.Access.held c.args.state.now) (omega (arith, c.saturating_add.ensures, c.from.ensures)) ∙ given)
+    c.joined_from.ensures

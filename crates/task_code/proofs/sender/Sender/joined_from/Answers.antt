@@ -10,6 +10,6 @@ use Rattle.task_code.proofs.sender.Sender.joined_from.Goals as goal
 pub returns-in-Some : goal.returns-in-Some
 returns-in-Some g c =
     joined_other (sender_of c.args.self.now) (with_part c.args.part.now c.args.others.now) c.in-Part.call c.in-Part.task c.in-Part.width c.in-Part.instance c.in-Part.turns c.in-Part.vars _ c.in-Part.value c.in-Some.how _ (g.A.Access.held c.args.state.now)
-        (c.lowest.ensures ∙ ap (λ (x : Item). Some x) c.in-Part.is)
-        (ap (λ (vs : List Val). after vs (gathered_of (with_part c.args.part.now c.args.others.now))) (sym c.new-values.ensures) ∙ c.in_ok-how-in-Part.ensures) c.in-Some.is
+    (c.lowest.ensures ∙ ap (λ (x : Item). Some x) c.in-Part.is)
+    (ap (λ (vs : List Val). after vs (gathered_of (with_part c.args.part.now c.args.others.now))) (sym c.new-values.ensures) ∙ c.in_ok-how-in-Part.ensures) c.in-Some.is
     ∙ c.done.ensures (g.A.Access.held c.args.state.now)

@@ -16,9 +16,9 @@ returns-in-Some-join_number c =
     let s = sender_of c.args.self.now in
     let f = frame_of c.args.frame.now in
     IfOk-weaker c.parted.result _ _
-        (λ out gives state.
-            ap (λ (v : Option Visited). items.stopped s (visited_of v) f c.args.how state) c.in-Some.is
-            ∙ ap (λ (join : Option ℕ). items.part_for_join s (visited_of (Some c.in-Some.visited)) join f c.args.how state) (sym c.in-Some-join_number.ensures)
-            ∙ ap (λ (v : Option Visited). items.parted s (visited_of v) c.in-Some-join_number.join (slice_get s.graph.tasks c.in-Some-join_number.join) f c.args.how state) (sym c.in-Some.is)
-            ∙ gives state)
-        c.parted.ensures
+    (λ out gives state.
+    ap (λ (v : Option Visited). items.stopped s (visited_of v) f c.args.how state) c.in-Some.is
+    ∙ ap (λ (join : Option ℕ). items.part_for_join s (visited_of (Some c.in-Some.visited)) join f c.args.how state) (sym c.in-Some-join_number.ensures)
+    ∙ ap (λ (v : Option Visited). items.parted s (visited_of v) c.in-Some-join_number.join (slice_get s.graph.tasks c.in-Some-join_number.join) f c.args.how state) (sym c.in-Some.is)
+    ∙ gives state)
+    c.parted.ensures
