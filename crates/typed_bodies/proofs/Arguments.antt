@@ -1,0 +1,221 @@
+-- Arguments: one after another, each as its parameter wants it.
+use Rattle.std.proofs.Common.{◌≡◌, ℕ, zero, suc, ◌+◌, ◌&&◌, ◌||◌, Bool, true, false, not, nat_eq, List, [], ◌∷◌, ◌++◌, length, map, fold, slice_get, slice_index_or, unwrap_or, option_map, Option, Some, None, if◌then◌else◌, refl, sym, ap, subst, ◌∙◌, arith}
+use Rattle.std.specs.List.{list_all}
+use Rattle.std.proofs.lemmas.List.{length-append}
+use Rattle.std.proofs.lemmas.List.Folds.{list_all-append}
+use Rattle.std.proofs.lemmas.Option.{slice_get-map, unwrap_or-slice_get}
+use Rattle.sdg_base.specs.declared.value_type.ValueType.{ValueType as SignatureType}
+use Rattle.sdg_base.specs.declared.value_type.ValueType.TheVariants as type
+use Rattle.java_tree.specs.declared.types.ExprType.{ExprType}
+use Rattle.java_tree.specs.declared.types.ExprType.TheVariants.{Unknown, Void, Value, Collection, State}
+use Rattle.java_tree.specs.declared.types.Declaration.{Declaration}
+use Rattle.java_types.specs.declared.walk.Env.{Env}
+use Rattle.java_types.specs.declared.walk.Given.{Given}
+use Rattle.java_types.specs.declared.walk.Walk.{Walk}
+use Rattle.java_types.specs.Fits.{is_known, fits, may_be_passed}
+use Rattle.java_types.specs.Walks.{past, past_if, noted}
+use Rattle.java_types.specs.Expressions.{Argument, Argued, passed, argument, argued, all_argued, past_none, param_at}
+use Rattle.java_types.specs.Expressions as walk
+use Rattle.access_blocks.specs.declared.body.Expression.{Expression}
+use Rattle.access_blocks.specs.declared.resolved.Resolved.{Resolved}
+use Rattle.access_blocks.specs.Cursors.{Cursor, Read, read}
+use Rattle.access_blocks.specs.Resolving.{Resolving, taken, wanted_by}
+use Rattle.access_blocks.specs.Resolving as resolving
+use Rattle.body_code.specs.Typing.{Context, type_of, types_of, with_type, all_types}
+use Rattle.typed_bodies.specs.Reading.{Place, Adds, InStep, Follows, IsOfType, is_plain, are_plain}
+use Rattle.typed_bodies.specs.Expressions.{IsFound, ArePassed, is_field, begins_plainly}
+use Rattle.typed_bodies.proofs.Steps.{adds_none, adds_both, in_step_both, past_follows, follows_past, follows_past_if, past_if_quiet, follows_noted, Unbroken, unbroken, past_quiet}
+use Rattle.typed_bodies.proofs.Conversions.{passed_typed}
+
+-- ---- lists
+
+-- each has the type that is wanted there
+abbrev Typed : Context → List SignatureType → List Expression → Type 0
+Typed c ts args = (i : ℕ) (a : Expression) (t : SignatureType) → slice_get args i ≡ Some a → slice_get ts i ≡ Some t → type_of c a ≡ Some t
+
+same_some : {A : Type 0} {x y : A} → Some x ≡ Some y → x ≡ y
+same_some e = cc
+
+at_end : (P : ℕ → Expression → Type 0) (args : List Expression) (last : Expression) → ((i : ℕ) (a : Expression) → slice_get args i ≡ Some a → P i a) → P (length args) last
+    → (i : ℕ) (a : Expression) → slice_get (args ++ last ∷ []) i ≡ Some a → P i a
+at_end P [] last each end zero a is = subst (P 0) (same_some is) end
+at_end P [] last each end (suc i) a is = absurd (cc)
+at_end P (x ∷ args) last each end zero a is = each zero a is
+at_end P (x ∷ args) last each end (suc i) a is = at_end (λ j. P (suc j)) args last (λ j. each (suc j)) end i a is
+
+all_typed : (c : Context) (ts : List SignatureType) (args : List Expression) → length ts ≡ length args → Typed c ts args → types_of c args ≡ Some ts
+all_typed c [] [] same each = refl
+all_typed c [] (a ∷ args) same each = absurd (omega arith)
+all_typed c (t ∷ ts) [] same each = absurd (omega arith)
+all_typed c (t ∷ ts) (a ∷ args) same each =
+    ap (λ s. with_type s (types_of c args)) (each zero a t refl refl) ∙ ap (with_type (Some t)) (all_typed c ts args (omega arith) (λ i. each (suc i)))
+
+wanted_there : (o : Option SignatureType) (t : SignatureType) → o ≡ Some t → unwrap_or (option_map wanted_by o) Unknown ≡ wanted_by t
+wanted_there None t is = absurd (cc)
+wanted_there (Some s) t is = ap wanted_by (same_some is)
+
+param_here : (ts : List SignatureType) (i : ℕ) (t : SignatureType) → slice_get ts i ≡ Some t → param_at (map wanted_by ts) i ≡ wanted_by t
+param_here ts i t is = ap (λ o. unwrap_or o Unknown) (slice_get-map wanted_by ts i) ∙ wanted_there (slice_get ts i) t is
+
+param_same : (params : List ExprType) (i : ℕ) → resolving.param_at params i ≡ param_at params i
+param_same params i = sym (unwrap_or-slice_get params i Unknown)
+
+both_true : (a b : Bool) → (a && b) ≡ true → a ≡ true × b ≡ true
+both_true true true e = (refl, refl)
+both_true true false e = absurd (cc)
+both_true false b e = absurd (cc)
+
+either_begins : (a b d : Bool) → (b && d) ≡ true → ((a || b) && d) ≡ true
+either_begins true true d e = e
+either_begins true false d e = absurd (cc)
+either_begins false b d e = e
+
+pub plain_both : (p : Place) (a b : List Declaration) → are_plain p (a ++ b) ≡ true → are_plain p a ≡ true × are_plain p b ≡ true
+plain_both p a b e = both_true (are_plain p a) (are_plain p b) (sym (list_all-append (is_plain p) a b) ∙ e)
+
+-- what is plain from its first name on begins so
+pub begins_with : (p : Place) (d : Declaration) (names : List Declaration) → are_plain p (d ∷ names) ≡ true → begins_plainly p (d ∷ names) ≡ true
+begins_with p d names plain = either_begins (is_field d) (is_plain p d) (are_plain p names) plain
+
+passed_fits : (t : SignatureType) (given : Given) → may_be_passed (wanted_by t) given ≡ true → fits (wanted_by t) given.found ≡ true
+passed_fits type.Int given e = e
+passed_fits type.Long given e = e
+passed_fits type.Boolean given e = e
+passed_fits type.Vector given e = e
+passed_fits type.Void given e = e
+
+not_false : (b : Bool) → not b ≡ false → b ≡ true
+not_false true e = refl
+not_false false e = absurd (cc)
+
+more_count : (n : ℕ) (before : List Expression) (last : Expression) → n ≡ length before → n + 1 ≡ length (before ++ last ∷ [])
+more_count n before last e = simp length-append (omega arith)
+
+pub known_typed : (c : Context) (found : ExprType) (a : Expression) → IsOfType c found a → is_known found ≡ true
+known_typed c Unknown a typed = absurd typed
+known_typed c Void a typed = refl
+known_typed c (Value t) a typed = refl
+known_typed c (Collection t) a typed = refl
+known_typed c (State class) a typed = absurd typed
+
+all_true : (a b d : Bool) → a ≡ true → b ≡ true → d ≡ true → (a && (b && d)) ≡ true
+all_true true true true e f g = refl
+all_true true true false e f g = absurd (cc)
+all_true true false d e f g = absurd (cc)
+all_true false b d e f g = absurd (cc)
+
+-- ---- one argument
+
+abbrev pub ReadsArgument : Place → Argument → Resolving → Type 0
+ReadsArgument p part reading = (w : Walk) → (part w).walk.findings ≡ [] → Follows p w (part w).walk reading (IsFound p (part w).given.found)
+
+record PassesOne (p : Place) (env : Env) (wanted : ExprType) (part : Argument) (reading : Resolving) (w : Walk) : Type 0 where
+  followed : Follows p w (argument env wanted part w).walk reading (IsFound p (part (past env 1 w)).given.found)
+  fit : may_be_passed wanted (part (past env 1 w)).given ≡ true
+
+passes_one : (p : Place) (env : Env) (wanted : ExprType) (part : Argument) (reading : Resolving) → ReadsArgument p part reading → (w : Walk)
+    → (argument env wanted part w).walk.findings ≡ [] → PassesOne p env wanted part reading w
+unfolding passed
+passes_one p env wanted part reading reads w quiet =
+    let g = part (past env 1 w) in
+    let u = unbroken (not (may_be_passed wanted g.given)) (past env 1 w).at 7 g.walk quiet in
+    record { followed = past_follows p env 1 (follows_noted p u (reads (past env 1 w) u.quiet)); fit = not_false _ u.holds }
+
+-- ---- all arguments
+
+module _ {Arg : Type 0} (p : Place) (env : Env) (wanted params : List ExprType) (pass : Arg → Argument) (reads : Arg → Resolving)
+    (each : (x : Arg) → ReadsArgument p (pass x) (reads x)) where
+  abbrev walked : List Arg → Argued → Argued
+  walked args a = fold (argued env wanted) a (map pass args)
+
+  abbrev reading : List Arg → List Expression → Cursor → Read (List Expression)
+  reading args before c = fold (resolving.argued params) (read before c) (map reads args)
+
+  fit_before : (args : List Arg) (a : Argued) → (walked args a).fit ≡ true → a.fit ≡ true
+  fit_before [] a e = e
+  fit_before (x ∷ args) a e = (both_true a.fit _ (fit_before args (argued env wanted a (pass x)) e)).0
+
+  record FitBehind (args : List Arg) (a : Argued) (before : List Expression) (names : List Declaration) (out : List Expression) : Type 0 where
+    all : length out ≡ length before + length args
+    fits : a.fit ≡ true → are_plain p names ≡ true → (walked args a).fit ≡ true
+    typed : (walked args a).fit ≡ true → are_plain p names ≡ true → (ts : List SignatureType) → wanted ≡ map wanted_by ts → params ≡ map wanted_by ts
+        → Typed p.context ts before → Typed p.context ts out
+
+  record Behind (args : List Arg) (a : Argued) : Type 0 where
+    added : Adds a.walk (walked args a).walk
+    in_step : (before : List Expression) → a.count ≡ length before → InStep p added (reading args before) (FitBehind args a before)
+
+  -- one more, where the others before it are typed
+  one_more : (x : Arg) (a : Argued) (before : List Expression) (names : List Declaration) (r : Resolved) (ts : List SignatureType)
+      → wanted ≡ map wanted_by ts → params ≡ map wanted_by ts → a.count ≡ length before
+      → (argued env wanted a (pass x)).fit ≡ true
+      → PassesOne p env (param_at wanted a.count) (pass x) (reads x) a.walk
+      → IsFound p (pass x (past env 1 a.walk)).given.found names r → are_plain p names ≡ true
+      → Typed p.context ts before → Typed p.context ts (before ++ taken (resolving.param_at params (length before)) r ∷ [])
+  one_more x a before names r ts from to count fit one found plain typed i y t is of =
+      at_end (λ j z. slice_get ts j ≡ Some t → type_of p.context z ≡ Some t) before (taken (resolving.param_at params (length before)) r)
+      (λ j z is of. typed j z t is of)
+      (λ of.
+      let here : param_at wanted a.count ≡ wanted_by t = ap (λ k. param_at wanted k) count ∙ (ap (λ ps. param_at ps (length before)) from ∙ param_here ts (length before) t of) in
+      let there : resolving.param_at params (length before) ≡ wanted_by t = param_same params (length before) ∙ (ap (λ ps. param_at ps (length before)) to ∙ param_here ts (length before) t of) in
+      let given = (pass x (past env 1 a.walk)).given in
+      let fits_it : fits (wanted_by t) given.found ≡ true = passed_fits t given (subst (λ (u : ExprType). may_be_passed u given ≡ true) here one.fit) in
+      let is_typed : IsOfType p.context r.found r.expression = subst (λ (u : ExprType). IsOfType p.context u r.expression) (sym found.same) (found.typed plain) in
+      let is_fit : fits (wanted_by t) r.found ≡ true = ap (λ u. fits (wanted_by t) u) found.same ∙ fits_it in
+      ap (λ u. type_of p.context (taken u r)) there ∙ passed_typed p.context t r.found r.expression is_typed is_fit)
+      i y is of
+
+  next_fit : (x : Arg) (a : Argued) {names : List Declaration} {r : Resolved} → a.fit ≡ true → PassesOne p env (param_at wanted a.count) (pass x) (reads x) a.walk
+      → IsFound p (pass x (past env 1 a.walk)).given.found names r → are_plain p names ≡ true → (argued env wanted a (pass x)).fit ≡ true
+  unfolding passed
+  next_fit x a fit one found plain = all_true _ _ _ fit one.fit (known_typed p.context _ _ (found.typed plain))
+
+  behind : (args : List Arg) (a : Argued) → (walked args a).walk.findings ≡ [] → Behind args a
+  behind [] a quiet = record {
+    added = adds_none a.walk quiet;
+    in_step = λ before count known c types names stands. record { behind = stands; fits = record { all = omega arith; fits = λ fit plain. fit; typed = λ fit plain ts from to typed. typed } };
+  }
+  behind (x ∷ args) a quiet =
+      let next : Argued = argued env wanted a (pass x) in
+      let later = behind args next quiet in
+      let one = passes_one p env (param_at wanted a.count) (pass x) (reads x) (each x) a.walk later.added.no_findings in
+      record {
+        added = adds_both one.followed.added later.added;
+        in_step = λ before count.
+            in_step_both p one.followed.added later.added (IsFound p (pass x (past env 1 a.walk)).given.found)
+            (λ r. FitBehind args next (before ++ taken (resolving.param_at params (length before)) r ∷ []))
+            (FitBehind (x ∷ args) a before)
+            (λ r out found rest. record {
+              all = rest.all ∙ (simp length-append (omega arith));
+              fits = λ fit plain.
+                  let plains = plain_both p one.followed.added.names later.added.names plain in
+                  rest.fits (next_fit x a fit one found plains.0) plains.1;
+              typed = λ fit plain ts from to typed.
+                  let plains = plain_both p one.followed.added.names later.added.names plain in
+                  rest.typed fit plains.1 ts from to
+                  (one_more x a before one.followed.added.names r ts from to count (fit_before args next fit) one found plains.0 typed);
+            })
+            one.followed.in_step
+            (λ r. later.in_step (before ++ taken (resolving.param_at params (length before)) r ∷ []) (more_count a.count before _ count));
+      }
+
+  pub arguments_follow : (args : List Arg) (w : Walk) → (walk.arguments env wanted (map pass args) w).walk.findings ≡ []
+      → Follows p w (walk.arguments env wanted (map pass args) w).walk (resolving.arguments params (map reads args))
+      (ArePassed p (length args) (walk.arguments env wanted (map pass args) w).holds wanted params)
+  arguments_follow args w quiet =
+      let start : Argued = record { count = 0; fit = true; walk = w } in
+      let end : Argued = walked args start in
+      let b = behind args start (past_if_quiet env _ 1 end.walk (past_quiet env 1 _ quiet)) in
+      follows_past p env 1 (follows_past_if p env (nat_eq (length (map pass args)) 0) 1 (record {
+        added = b.added;
+        in_step = λ known c types names stands.
+            let r = b.in_step [] refl known c types names stands in
+            record {
+              behind = r.behind;
+              fits = record {
+                all = r.fits.all ∙ omega arith;
+                fits = λ plain. r.fits.fits refl plain;
+                typed = λ plain ts from to same. all_typed p.context ts _ (same ∙ sym (r.fits.all ∙ omega arith)) (r.fits.typed (r.fits.fits refl plain) plain ts from to (λ i y t is of. absurd (cc)));
+              };
+            };
+      }))

@@ -1,0 +1,11 @@
+pub mod Steps
+pub mod Conversions
+pub mod Arguments
+pub mod Names
+pub mod OwnCalls
+pub mod Signed
+pub mod DottedCalls
+pub mod NamedCalls
+pub mod Members
+pub mod Layers
+pub mod ExpressionsFollow

@@ -1,0 +1,6 @@
+//! Accepted classes have typed bodies.
+#![tactic(auto)]
+
+mod law;
+
+pub use law::expressions_are_typed;
