@@ -32,6 +32,3 @@ pub use sink::Sink;
 pub use sure::{SureFiles, SureSink};
 pub use sure_keep::SureKeep;
 pub use whole::{ReadError, read_whole, write_whole};
-
-#[cfg(test)]
-mod tests;

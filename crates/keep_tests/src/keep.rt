@@ -1,7 +1,7 @@
 ghost use Rattle.std.specs.Prelude.{◌≤◌, IfOk};
 
-use super::*;
 use sdg_base::{Bytes, KeepError, Line, Name, Note, Port};
+use sdg_keep::*;
 use std::alloc::{AllocError, Global};
 use std::process::Abort;
 use std::test::*;
