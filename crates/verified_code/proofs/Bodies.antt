@@ -1,8 +1,9 @@
 -- The whole code of a typed body has labels, and no way leaves it.
-use Rattle.std.proofs.Common.{◌≡◌, refl, sym, ap, subst, ◌∙◌, ℕ, zero, suc, ◌+◌, ◌<◌, ◌≤◌, arith, Bool, true, false, cond, List, [], ◌∷◌, ◌++◌, map, length, length-append, Option, Some, None, slice_get, ◌⊎◌, inl, inr}
+use Rattle.std.proofs.Common.{◌≡◌, refl, sym, ap, subst, ◌∙◌, ℕ, zero, suc, ◌+◌, ◌<◌, ◌≤◌, arith, Bool, true, false, cond, List, [], ◌∷◌, ◌++◌, map, length, length-append, drop, append_assoc, Option, Some, None, slice_get, ◌⊎◌, inl, inr}
 use Rattle.std.specs.Prelude.{nat_eq, pos, ◌||◌}
 use Rattle.std.specs.List.{flat_map, list_any, range_with_len}
 use Rattle.std.proofs.lemmas.Bool.{false≢true, eqb-true, eq-eqb}
+use Rattle.std.proofs.lemmas.List.{drop_at}
 use Rattle.sdg_base.specs.declared.value_type.ValueType.{ValueType}
 use Rattle.sdg_base.specs.declared.value_type.ValueType.TheVariants as type
 use Rattle.java_tree.specs.declared.tree.Class.{Class}
@@ -31,6 +32,7 @@ use Rattle.verified_code.proofs.Labels.{Anything, Turning, Label, label, Setting
 use Rattle.verified_code.proofs.Making.{in_none, only_one, one_or_other, Follows, one, last, none, both, jump}
 use Rattle.verified_code.proofs.Making as making
 use Rattle.verified_code.proofs.Typed.{none_some, some_is}
+use Rattle.verified_code.proofs.Firsts.{NoPart, Placed}
 use Rattle.verified_code.proofs.Expressions.{Anywhere}
 use Rattle.verified_code.proofs.Simple.{Whole, Carries, Covers, still_known, now_known, store_made, void_takes, or_is}
 use Rattle.verified_code.proofs.Control.{get_right, from_more, turn_right}
@@ -187,14 +189,14 @@ no_end s lab at (instr.Access name m) next r h e = by r.own
   where
     by : AtAccess s lab at name m → ⊥
     by (InBlock field plain f n) = some_none (lab at).visit 0 plain (sym (r.stays next h).visit ∙ e)
-    by (InVisit field sig visit n g k o) = (let same : Some (suc at) ≡ Some 0 = sym visit ∙ sym (r.stays next h).visit ∙ e in let z = some_is (suc at) 0 same in omega (arith, z))
+    by (InVisit field holder sig is p visit n g k o) = (let same : Some (suc at) ≡ Some 0 = sym visit ∙ sym (r.stays next h).visit ∙ e in let z = some_is (suc at) 0 same in omega (arith, z))
 no_end s lab at (instr.Cut t) next r h e = by r.own.to
   where
     here : (lab (suc at)).visit ≡ Some 0
     here = subst (λ (n : ℕ). (lab n).visit ≡ Some 0) (only_one next (suc at) h) e
 
     by : AtCut s lab at → ⊥
-    by (ToBlock field holder is key plain f g) = some_none (lab (suc at)).visit 0 plain here
+    by (ToBlock field holder is key plain f g first no_visit) = some_none (lab (suc at)).visit 0 plain here
     by (ToVisit field part holder is p k visit less f g) = (let z = some_is part 0 (sym visit ∙ here) in omega (arith, z, less))
 no_end s lab at (instr.Part t) next r h e = some_none (lab (suc at)).visit 0 r.own.plain (subst (λ (n : ℕ). (lab n).visit ≡ Some 0) (only_one next (suc at) h) e)
 no_end s lab at (instr.Load v) next r h e = by r.own
@@ -388,17 +390,30 @@ module _ (class : Class) (program : Program) (tasks : List Task) (typed : IsType
   ending_is true code = refl
   ending_is false code = refl
 
+  no_part_ending : (completes : Bool) (code : List Instr) → NoPart (ending completes code)
+  no_part_ending true code = tt
+  no_part_ending false code = by (list_any (is_jump_to (length code)) code)
+    where
+      by : (jumps : Bool) → NoPart (cond jumps (instr.Turn ∷ instr.Jump (length code) ∷ []) [])
+      by true = tt
+      by false = tt
+
+  body_placed : (s : Setting) (xs ys end : List Instr) → NoPart end → s.of.code ≡ (xs ++ ys) ++ end → Placed s (length xs) ys
+  body_placed s xs ys end plain is = record { rest = end; stands = ap (drop (length xs)) (is ∙ append_assoc xs ys end) ∙ drop_at xs (ys ++ end) (length xs) refl; no_part = plain }
+
   pub body_labels : (m : Method) (b : Body) (task : ℕ) → IsTypedBody program.fields (cs class program tasks) m b → Labelled (setting class program tasks m b task) (at_first b) (own class program tasks m b task).code
   body_labels m b task h =
       let s = setting class program tasks m b task in
       let w = whole class program tasks typed m b task in
       let piece = body_piece (fields class program tasks) (cs class program tasks) b in
       let place = body_place b task in
-      let done = statements_done s w b.statements in
+      let done = statements_done s w b.statements h.blocks in
       let have = early_have s w (range_with_len 0 b.arity) (all_of (map assigned_in b.statements)) (statements_typed s w b.statements None (at_start b) h.after h.checked) in
       let code = started b ++ piece.from place no_exits in
+      let end = ending (body_completes b.statements) code in
+      let stands = body_placed s (started b) (piece.from place no_exits) end (no_part_ending (body_completes b.statements) code) refl in
       let front : (r : ℕ) → Made s Anywhere 0 code (at_first b) [] (label h.after [] r) = (λ r.
-      (let stated = done.made None (at_start b) h.after (inr (refl, refl)) h.checked place no_exits 0 r (omega arith) (carries m b task) in
+      (let stated = done.made None (at_start b) h.after (inr (refl, refl)) h.checked place no_exits 0 r (omega arith) (carries m b task) stands in
       let more = from_more s Anywhere place.at (piece.from place no_exits) (at_start b) (know (early b) (at_first b)) [] (label h.after [] r) (first_covers b) stated in
       both s Anywhere 0 place.at (started b) (piece.from place no_exits) (at_first b) (know (early b) (at_first b)) [] [] (label h.after [] r) (omega arith) more
       (started_made s w b refl (early b) have 0 (at_first b) more.rank))) in

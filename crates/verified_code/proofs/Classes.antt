@@ -115,7 +115,7 @@ pub record CalleeOf (ms : List Method) (bs : List Body) (n : ℕ) (c : Callee) :
   pub is_b : slice_get bs n ≡ Some b
   pub is : callee m b ≡ c
 
-callee_at : (ms : List Method) (bs : List Body) (n : ℕ) (c : Callee) → slice_get (callees ms bs) n ≡ Some c → CalleeOf ms bs n c
+pub callee_at : (ms : List Method) (bs : List Body) (n : ℕ) (c : Callee) → slice_get (callees ms bs) n ≡ Some c → CalleeOf ms bs n c
 callee_at [] bs n c e = absurd (none_some c e)
 callee_at (m ∷ ms) [] n c e = absurd (none_some c e)
 callee_at (m ∷ ms) (b ∷ bs) zero c e = record { m = m; b = b; is_m = refl; is_b = refl; is = some_is (callee m b) c e }

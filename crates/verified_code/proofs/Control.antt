@@ -1,5 +1,5 @@
 -- The labels of statements with statements inside.
-use Rattle.std.proofs.Common.{◌≡◌, refl, sym, ap, subst, ◌∙◌, ℕ, zero, suc, ◌+◌, ◌≤◌, arith, Bool, true, false, cond, ◌&&◌, List, [], ◌∷◌, ◌++◌, length, length-append, Option, Some, None, slice_get, ◌⊎◌, inl, inr}
+use Rattle.std.proofs.Common.{◌≡◌, refl, sym, ap, subst, ◌∙◌, ℕ, zero, suc, ◌+◌, ◌≤◌, arith, Bool, true, false, cond, ◌&&◌, List, [], ◌∷◌, ◌++◌, length, length-append, drop, Option, Some, None, slice_get, ◌⊎◌, inl, inr}
 use Rattle.std.specs.Prelude.{not}
 use Rattle.std.proofs.lemmas.Bool.{false≢true}
 use Rattle.sdg_base.specs.declared.value_type.ValueType.TheVariants as type
@@ -17,13 +17,15 @@ use Rattle.access_blocks.specs.declared.body.Mark.{Mark}
 use Rattle.body_code.specs.Typing.{Context}
 use Rattle.body_code.specs.Codes.{nothing}
 use Rattle.body_code.specs.ExpressionCode.{code_of}
-use Rattle.body_code.specs.StatementCode.{Piece, moved, behind_piece, of_code, then_piece, in_order, cut, key_code, marked, guarded, jumped_over, branches}
+use Rattle.body_code.specs.StatementCode.{Place, Exits, Piece, field_name, moved, behind_piece, of_code, then_piece, in_order, cut, key_code, marked, guarded, jumped_over, branches}
 use Rattle.body_code.specs.Checking.{Surroundings, Standing, Around, Checking, if_so, with_known, outside, in_block, after_compound, same_number, same_value, common, meet, takes, is_entry, is_key_of, next, opened, compound, met, otherwise, branching, is_condition, ends_as, passing, looping, is_partitioned}
 use Rattle.body_code.specs.Checking as checking
+use Rattle.task_cutter.specs.Tasks.{first_field, is_visit}
 use Rattle.verified_code.proofs.Labels.{Behind, Label, label, Setting, Knows, Stays, Eases, eases_on, same_eases, Takes, Suits, ToBlock, KeyIs, Right, Good, Agrees, Begins, begins_with, Made}
 use Rattle.verified_code.proofs.Making.{only_one, in_none, Follows, right_by, none, eased, within, both, jump, test, if_else, turning, turned}
 use Rattle.verified_code.proofs.Making as making
 use Rattle.verified_code.proofs.Typed.{none_some, some_is, and_left, and_right}
+use Rattle.verified_code.proofs.Firsts.{FirstAccess, placed_left, placed_right, first_placed, AllHeaded, headed_in_order}
 use Rattle.verified_code.proofs.Expressions.{Proper, Anywhere, behind_place}
 use Rattle.verified_code.proofs.Simple.{Whole, scope, Leads, Carries, Pieced, number_is, value_is, Covers, covers_is, covered, TypedBy, takes_is, value_made, value_long, anywhere, same_standing, same_known}
 
@@ -157,30 +159,32 @@ module _ (s : Setting) (w : Whole s) where
     long = λ p to. refl;
     proper = λ exits st after proper e. same_standing s w after st (some_is st after e) proper;
     grows = λ exits st after e v h. same_known s w after st (some_is st after e) v h;
-    made = λ exits st after proper e p to least r less carries.
+    made = λ exits st after proper e p to least r less carries placed.
         subst (λ (z : Standing). Made s (Leads exits to least) p.at [] st [] (label z [] r)) (some_is st after e) (none s (Leads exits to least) p.at st [] r);
   }
 
-  more_done : (p : Piece) (k : Checking) (ps : List Piece) (ks : List Checking) → Pieced s p k → Pieced s (in_order ps) (checking.in_order ks) → Pieced s (in_order (p ∷ ps)) (checking.in_order (k ∷ ks))
-  more_done piece k ps ks a b = record {
+  more_done : (p : Piece) (k : Checking) (ps : List Piece) (ks : List Checking) → AllHeaded ps → Pieced s p k → Pieced s (in_order ps) (checking.in_order ks) → Pieced s (in_order (p ∷ ps)) (checking.in_order (k ∷ ks))
+  more_done piece k ps ks headed a b = record {
     long = λ p to. (let e = a.long p to in let f = b.long (behind_piece p piece) to in let many = length-append (piece.from p to) ((in_order ps).from (behind_piece p piece) to) in omega (arith, e, f, many));
     proper = λ exits st after proper e. (let m = next_of_is (checking.in_order ks exits) (k exits st) after e in b.proper exits m.0 after (a.proper exits st m.0 proper m.1) m.2);
     grows = λ exits st after e v h. (let m = next_of_is (checking.in_order ks exits) (k exits st) after e in b.grows exits m.0 after m.2 v (a.grows exits st m.0 m.1 v h));
-    made = λ exits st after proper e p to least r less carries.
+    made = λ exits st after proper e p to least r less carries placed.
         (let m = next_of_is (checking.in_order ks exits) (k exits st) after e in
         let behind = behind_piece p piece in
-        let rest = b.made exits m.0 after (a.proper exits st m.0 proper m.1) m.2 behind to least r less (carries_right s piece.carried (in_order ps).carried p.variable carries) in
-        let above = rest.above in
         let long = a.long p to in
+        let last = (in_order ps).from behind to in
+        let rest = b.made exits m.0 after (a.proper exits st m.0 proper m.1) m.2 behind to least r less (carries_right s piece.carried (in_order ps).carried p.variable carries) (placed_right s p.at behind.at (piece.from p to) last (omega (arith, long)) placed) in
+        let above = rest.above in
         both s (Leads exits to least) p.at behind.at (piece.from p to) ((in_order ps).from behind to) st m.0 [] [] (label after [] r) (omega (arith, long)) rest
-        (a.made exits st m.0 proper m.1 p to least rest.rank (omega (arith, less, above)) (carries_left s piece.carried (in_order ps).carried p.variable carries)));
+        (a.made exits st m.0 proper m.1 p to least rest.rank (omega (arith, less, above)) (carries_left s piece.carried (in_order ps).carried p.variable carries)
+        (placed_left s p.at (piece.from p to) last (headed_in_order ps headed behind to) placed)));
   }
 
-  pub list_done : (ps : List Piece) (ks : List Checking) → AllDone ps ks → Pieced s (in_order ps) (checking.in_order ks)
-  list_done [] [] h = nothing_done
-  list_done (p ∷ ps) (k ∷ ks) h = more_done p k ps ks h.0 (list_done ps ks h.1)
-  list_done [] (k ∷ ks) h = absurd h
-  list_done (p ∷ ps) [] h = absurd h
+  pub list_done : (ps : List Piece) (ks : List Checking) → AllDone ps ks → AllHeaded ps → Pieced s (in_order ps) (checking.in_order ks)
+  list_done [] [] h headed = nothing_done
+  list_done (p ∷ ps) (k ∷ ks) h headed = more_done p k ps ks headed.1 h.0 (list_done ps ks h.1 headed.1)
+  list_done [] (k ∷ ks) h headed = absurd h
+  list_done (p ∷ ps) [] h headed = absurd h
 
   -- ---- what ends in less
 
@@ -192,10 +196,10 @@ module _ (s : Setting) (w : Whole s) where
     long = a.long;
     proper = λ exits st after proper e. (let m = compound_is st (k exits st) after e in same_standing s w after (after_compound st m.0) m.2 (a.proper exits st m.0 proper m.1));
     grows = λ exits st after e v h. (let m = compound_is st (k exits st) after e in same_known s w after (after_compound st m.0) m.2 v h);
-    made = λ exits st after proper e p to least r less carries.
+    made = λ exits st after proper e p to least r less carries placed.
         (let m = compound_is st (k exits st) after e in
         subst (λ (z : Standing). Made s (Leads exits to least) p.at (piece.from p to) st [] (label z [] r)) m.2
-        (eased s (Leads exits to least) p.at (piece.from p to) st [] (label m.0 [] r) (label (after_compound st m.0) [] r) (a.made exits st m.0 proper m.1 p to least r less carries)
+        (eased s (Leads exits to least) p.at (piece.from p to) st [] (label m.0 [] r) (label (after_compound st m.0) [] r) (a.made exits st m.0 proper m.1 p to least r less carries placed)
         (covered m.0 (after_compound st m.0) [] r r (omega arith) (compound_covers st m.0 (a.grows exits st m.0 m.1)))));
   }
 
@@ -211,11 +215,11 @@ module _ (s : Setting) (w : Whole s) where
     long = a.long;
     proper = λ exits st after proper e. (let m = opened_is st (k exits (outside st)) after e in same_standing s w after (outside st) m.2 (outside_proper st proper));
     grows = λ exits st after e v h. (let m = opened_is st (k exits (outside st)) after e in same_known s w after (outside st) m.2 v h);
-    made = λ exits st after proper e p to least r less carries.
+    made = λ exits st after proper e p to least r less carries placed.
         (let m = opened_is st (k exits (outside st)) after e in
         subst (λ (z : Standing). Made s (Leads exits to least) p.at (piece.from p to) st [] (label z [] r)) m.2
         (from_more s (Leads exits to least) p.at (piece.from p to) (outside st) st [] (label (outside st) [] r) (outside_covers st st (λ v h. h))
-        (eased s (Leads exits to least) p.at (piece.from p to) (outside st) [] (label m.0 [] r) (label (outside st) [] r) (a.made exits (outside st) m.0 (outside_proper st proper) m.1 p to least r less carries)
+        (eased s (Leads exits to least) p.at (piece.from p to) (outside st) [] (label m.0 [] r) (label (outside st) [] r) (a.made exits (outside st) m.0 (outside_proper st proper) m.1 p to least r less carries placed)
         (covered m.0 (outside st) [] r r (omega arith) (outside_covers st m.0 (a.grows exits (outside st) m.0 m.1))))));
   }
 
@@ -249,7 +253,7 @@ module _ (s : Setting) (w : Whole s) where
         let many = length-append ((code_of c x).from p.at) ((guarded 0 piece).from (behind_piece p (of_code (code_of c x))) to) in omega (arith, e, f, many));
     proper = λ exits st after proper e. (let m = branch_is x exits k None st after e in same_standing s w after (meet st m.one m.other) m.after_is (meet_proper st m.one m.other (a.proper exits st m.one proper m.is_one)));
     grows = λ exits st after e v h. (let m = branch_is x exits k None st after e in same_known s w after (meet st m.one m.other) m.after_is v h);
-    made = λ exits st after proper e p to least r less carries.
+    made = λ exits st after proper e p to least r less carries placed.
         (let m = branch_is x exits k None st after e in
         let Out = Leads exits to least in
         let test_at = behind_piece p (of_code (code_of c x)) in
@@ -259,7 +263,9 @@ module _ (s : Setting) (w : Whole s) where
         let second : st ≡ m.other = some_is st m.other m.is_other in
         let covers : Covers st meeting = subst (λ (z : Standing). Covers z meeting) (sym second) (meets_second st m.one m.other (λ v h. subst (λ (z : Standing). Knows z v) second h)) in
         let long_body = a.long body_at to in
-        let body = eased s Out body_at.at (piece.from body_at to) st [] (label m.one [] r) (label meeting [] r) (a.made exits st m.one proper m.is_one body_at to least r less carried)
+        let guard_placed = placed_right s p.at test_at.at ((code_of c x).from p.at) ((guarded 0 piece).from test_at to) (behind_place s w.fit (code_of c x) (value_long s w x) p.at) placed in
+        let body_placed = placed_right s test_at.at body_at.at (instr.IfFalse (test_at.at + 1 + piece.size + 0) ∷ []) (piece.from body_at to) (omega arith) guard_placed in
+        let body = eased s Out body_at.at (piece.from body_at to) st [] (label m.one [] r) (label meeting [] r) (a.made exits st m.one proper m.is_one body_at to least r less carried body_placed)
         (covered m.one meeting [] r r (omega arith) (meets_first st m.one m.other (a.grows exits st m.one m.is_one))) in
         let tested_body = if_only s Out test_at.at body_at.at (test_at.at + 1 + piece.size + 0) (piece.from body_at to) st meeting r (omega arith) (omega (arith, long_body)) covers body in
         subst (λ (z : Standing). Made s Out p.at ((branches (code_of c x) piece None).from p to) st [] (label z [] r)) m.after_is
@@ -278,7 +284,7 @@ module _ (s : Setting) (w : Whole s) where
         let many = length-append ((code_of c x).from p.at) ((then_piece (guarded 1 one) (jumped_over two)).from test_at to) in omega (arith, e, f, g, some, many));
     proper = λ exits st after proper e. (let m = branch_is x exits k (Some l) st after e in same_standing s w after (meet st m.one m.other) m.after_is (meet_proper st m.one m.other (a.proper exits st m.one proper m.is_one)));
     grows = λ exits st after e v h. (let m = branch_is x exits k (Some l) st after e in same_known s w after (meet st m.one m.other) m.after_is v h);
-    made = λ exits st after proper e p to least r less carries.
+    made = λ exits st after proper e p to least r less carries placed.
         (let m = branch_is x exits k (Some l) st after e in
         let Out = Leads exits to least in
         let test_at = behind_piece p (of_code (code_of c x)) in
@@ -290,9 +296,14 @@ module _ (s : Setting) (w : Whole s) where
         let whole : Carries s (one.carried ++ two.carried) (p.variable + 0) = subst (λ (n : ℕ). Carries s (one.carried ++ two.carried) n) v carries in
         let long_one = a.long body_at to in
         let long_two = b.long other_at to in
-        let first = eased s Out body_at.at (one.from body_at to) st [] (label m.one [] (suc r)) (label meeting [] (suc r)) (a.made exits st m.one proper m.is_one body_at to least (suc r) (omega (arith, less)) (carries_left s one.carried two.carried (p.variable + 0) whole))
+        let front = (guarded 1 one).from test_at to in
+        let back = (jumped_over two).from jump_at to in
+        let both_placed = placed_right s p.at test_at.at ((code_of c x).from p.at) ((then_piece (guarded 1 one) (jumped_over two)).from test_at to) (behind_place s w.fit (code_of c x) (value_long s w x) p.at) placed in
+        let one_placed = placed_right s test_at.at body_at.at (instr.IfFalse (test_at.at + 1 + one.size + 1) ∷ []) (one.from body_at to) (omega arith) (placed_left s test_at.at front back tt both_placed) in
+        let two_placed = placed_right s jump_at.at other_at.at (instr.Jump (jump_at.at + 1 + two.size) ∷ []) (two.from other_at to) (omega arith) (placed_right s test_at.at jump_at.at front back (omega (arith, long_one)) both_placed) in
+        let first = eased s Out body_at.at (one.from body_at to) st [] (label m.one [] (suc r)) (label meeting [] (suc r)) (a.made exits st m.one proper m.is_one body_at to least (suc r) (omega (arith, less)) (carries_left s one.carried two.carried (p.variable + 0) whole) one_placed)
         (covered m.one meeting [] (suc r) (suc r) (omega arith) (meets_first st m.one m.other (a.grows exits st m.one m.is_one))) in
-        let second = eased s Out other_at.at (two.from other_at to) st [] (label m.other [] r) (label meeting [] r) (b.made exits st m.other proper m.is_other other_at to least r less (carries_right s one.carried two.carried (p.variable + 0) whole))
+        let second = eased s Out other_at.at (two.from other_at to) st [] (label m.other [] r) (label meeting [] r) (b.made exits st m.other proper m.is_other other_at to least r less (carries_right s one.carried two.carried (p.variable + 0) whole) two_placed)
         (covered m.other meeting [] r r (omega arith) (meets_second st m.one m.other (b.grows exits st m.other m.is_other))) in
         let same : test_at.at + 1 + one.size + 1 ≡ other_at.at = omega arith in
         let tested_both = if_else s Out test_at.at body_at.at other_at.at (jump_at.at + 1 + two.size) (one.from body_at to) (two.from other_at to) st meeting [] [] r (omega arith) (omega (arith, long_one)) (omega (arith, long_two)) first second in
@@ -347,22 +358,22 @@ module _ (s : Setting) (w : Whole s) where
       (entry_is s.around.kind (and_left a b m.0), and_right a b m.0, m.1)
 
   cut_made : (Out : (ℕ → Label) → Type 0) (at t : ℕ) (st : Standing) (field : ℕ) (r : ℕ) (key : Option Expression) (h : KeyOf st (slice_get s.around.fields field) key) → s.around.kind ≡ source_kind.Entry
-      → Made s Out at (instr.Turn ∷ instr.Cut t ∷ []) st h.stack (label (in_block field st) [] r)
-  cut_made Out at t st field r key h entry =
+      → first_field (drop (suc (suc at)) s.of.code) ≡ Some (field_name (scope s) field) → is_visit (drop (suc (suc at)) s.of.code) ≡ false → Made s Out at (instr.Turn ∷ instr.Cut t ∷ []) st h.stack (label (in_block field st) [] r)
+  cut_made Out at t st field r key h entry first no_visit =
       turned s Out at (instr.Cut t) st h.stack (label (in_block field st) [] r) refl
       (record { falls = omega arith; knows = λ v k. inl k; may_read = λ v k. absurd (in_none v k); stays = λ next k. absurd (in_none next k); takes = refl; kind = record { entry = λ k. entry; merge = λ k. absurd (false≢true k) } })
       (λ lab here behind. record {
         plain = ap (λ (l : Label). l.visit) here;
         turned = ap (λ (l : Label). l.behind) here;
-        to = ToBlock field h.holder h.is (subst (λ (l : Label). KeyIs (is_partitioned (Some h.holder)) l.stack) (sym here) h.fits) behind.stays.visit behind.stays.field (both_none behind.stays.gathered);
+        to = ToBlock field h.holder h.is (subst (λ (l : Label). KeyIs (is_partitioned (Some h.holder)) l.stack) (sym here) h.fits) behind.stays.visit behind.stays.field (both_none behind.stays.gathered) first no_visit;
       })
     where
       both_none : {A : Type 0} {o : Option A} → (o ≡ None) ⊎ (o ≡ None) → o ≡ None
       both_none (inl e) = e
       both_none (inr e) = e
 
-  pub marked_done : (mark : Mark) (piece : Piece) (k : Checking) → Pieced s piece k → Pieced s (marked (scope s) mark piece) (checking.marked s.around mark k)
-  marked_done mark piece k a =
+  pub marked_done : (mark : Mark) (piece : Piece) (k : Checking) → ((p : Place) (to : Exits) → FirstAccess (field_name (scope s) mark.field) (piece.from p to)) → Pieced s piece k → Pieced s (marked (scope s) mark piece) (checking.marked s.around mark k)
+  marked_done mark piece k first a =
       let key = of_code (key_code (scope s) mark.key) in
       record {
         long = λ p to. (let e = key_long mark.key p.at in
@@ -370,15 +381,21 @@ module _ (s : Setting) (w : Whole s) where
             let many = length-append (key.from p to) ((then_piece cut piece).from (behind_piece p key) to) in omega (arith, e, f, many));
         proper = λ exits st after proper e. (let m = marked_is mark k exits st after e in a.proper exits (in_block mark.field st) after (inl m.0) m.2);
         grows = λ exits st after e v h. (let m = marked_is mark k exits st after e in a.grows exits (in_block mark.field st) after m.2 v h);
-        made = λ exits st after proper e p to least r less carries.
+        made = λ exits st after proper e p to least r less carries placed.
             (let m = marked_is mark k exits st after e in
             let Out = Leads exits to least in
             let h = keyed st proper (slice_get s.around.fields mark.field) mark.key m.1 in
             let cut_at = behind_piece p key in
             let body_at = behind_piece cut_at cut in
             let v : p.variable ≡ body_at.variable = omega arith in
-            let body = a.made exits (in_block mark.field st) after (inl m.0) m.2 body_at to least r less (subst (λ (n : ℕ). Carries s piece.carried n) v carries) in
-            let cutting = cut_made Out cut_at.at cut_at.task st mark.field body.rank mark.key h m.0 in
+            let cut_placed = placed_right s p.at cut_at.at (key.from p to) ((then_piece cut piece).from cut_at to) (behind_place s w.fit (key_code (scope s) mark.key) (key_long mark.key) p.at) placed in
+            let body_placed = placed_right s cut_at.at body_at.at (instr.Turn ∷ instr.Cut cut_at.task ∷ []) (piece.from body_at to) (omega arith) cut_placed in
+            let body = a.made exits (in_block mark.field st) after (inl m.0) m.2 body_at to least r less (subst (λ (n : ℕ). Carries s piece.carried n) v carries) body_placed in
+            let its = first_placed s body_at.at (field_name (scope s) mark.field) (piece.from body_at to) (first body_at to) body_placed in
+            let here : body_at.at ≡ suc (suc cut_at.at) = omega arith in
+            let first_here : first_field (drop (suc (suc cut_at.at)) s.of.code) ≡ Some (field_name (scope s) mark.field) = subst (λ (n : ℕ). first_field (drop n s.of.code) ≡ Some (field_name (scope s) mark.field)) here its.0 in
+            let no_visit : is_visit (drop (suc (suc cut_at.at)) s.of.code) ≡ false = subst (λ (n : ℕ). is_visit (drop n s.of.code) ≡ false) here its.1 in
+            let cutting = cut_made Out cut_at.at cut_at.task st mark.field body.rank mark.key h m.0 first_here no_visit in
             let rest = both s Out cut_at.at body_at.at (instr.Turn ∷ instr.Cut cut_at.task ∷ []) (piece.from body_at to) st (in_block mark.field st) h.stack [] (label after [] r) (omega arith) body cutting in
             both s Out p.at cut_at.at (key.from p to) ((then_piece cut piece).from cut_at to) st st [] h.stack (label after [] r) (behind_place s w.fit (key_code (scope s) mark.key) (key_long mark.key) p.at) rest
             (anywhere s w Out p.at (key.from p to) st [] (label st h.stack rest.rank) (h.made p.at rest.rank)));

@@ -1,5 +1,5 @@
 -- What holds at each place of a body's code: the types on the stack, what is known, and how far a way may still go without a turn.
-use Rattle.std.proofs.Common.{◌≡◌, ◌≢◌, refl, sym, subst, ◌∙◌, ℕ, suc, ◌+◌, ◌<◌, ◌≤◌, arith, Bool, true, false, List, [], ◌∷◌, ◌++◌, length, Option, Some, None, slice_get, ◌⊎◌, inl, inr}
+use Rattle.std.proofs.Common.{◌≡◌, ◌≢◌, refl, sym, subst, ◌∙◌, ℕ, suc, ◌+◌, ◌<◌, ◌≤◌, arith, Bool, true, false, List, [], ◌∷◌, ◌++◌, length, drop, Option, Some, None, slice_get, ◌⊎◌, inl, inr}
 use Rattle.sdg_base.specs.declared.value_type.ValueType.{ValueType}
 use Rattle.sdg_base.specs.declared.value_type.ValueType.TheVariants as type
 use Rattle.sdg_base.specs.Signatures.{Signature}
@@ -17,6 +17,7 @@ use Rattle.access_blocks.specs.declared.body.Holder.{Holder}
 use Rattle.body_code.specs.Early.{is_in}
 use Rattle.body_code.specs.StatementCode.{name_in}
 use Rattle.body_code.specs.Checking.{Surroundings, Standing, has_key, takes_gathered, is_partitioned}
+use Rattle.task_cutter.specs.Tasks.{first_field, is_visit}
 
 -- what stands right before a place to which nothing jumps
 pub data Behind : Type 0 where
@@ -97,10 +98,10 @@ pub record AtCall (s : Setting) (l : Label) (n : ℕ) : Type 0 where
   pub plain : l.visit ≡ None
   pub turned : l.behind ≡ Turning
 
--- an access in the block of its field, or in a visit right before the part
+-- an access in the block of its field, or in a visit of its partial field right before the part
 pub data AtAccess (s : Setting) (lab : ℕ → Label) (at : ℕ) (name : List ℕ) (m : Method) : Type 0 where
   InBlock : (field : ℕ) → (lab at).visit ≡ None → (lab at).standing.field ≡ Some field → name ≡ name_in (slice_get s.graph.fields field) → AtAccess s lab at name m
-  InVisit : (field : ℕ) (sig : Signature) → (lab at).visit ≡ Some (suc at) → name ≡ name_in (slice_get s.graph.fields field) → signature_at s.graph.fields name m ≡ Some sig
+  InVisit : (field : ℕ) (h : Holder) (sig : Signature) → slice_get s.around.fields field ≡ Some h → h.is_partial ≡ true → (lab at).visit ≡ Some (suc at) → name ≡ name_in (slice_get s.graph.fields field) → signature_at s.graph.fields name m ≡ Some sig
       → (lab (suc at)).stack ≡ on_top sig.result [] → ((lab (suc (suc at))).standing.gathered ≡ None) ⊎ ((lab (suc (suc at))).standing.gathered ≡ Some sig.result) → AtAccess s lab at name m
 
 pub record AtPart (lab : ℕ → Label) (at : ℕ) : Type 0 where
@@ -117,10 +118,11 @@ abbrev pub KeyIs : Bool → Stack → Type 0
 KeyIs true stack = stack ≡ type.Long ∷ []
 KeyIs false stack = stack ≡ []
 
--- what a cut begins: a block of a field, or a visit
+-- what a cut begins: a block of a field, which the first access behind it is to, or a visit
 pub data AtCut (s : Setting) (lab : ℕ → Label) (at : ℕ) : Type 0 where
   ToBlock : (field : ℕ) (h : Holder) → slice_get s.around.fields field ≡ Some h → KeyIs (is_partitioned (Some h)) (lab at).stack → (lab (suc at)).visit ≡ None
-      → ((lab (suc at)).standing.field ≡ None) ⊎ ((lab (suc at)).standing.field ≡ Some field) → (lab (suc at)).standing.gathered ≡ None → AtCut s lab at
+      → ((lab (suc at)).standing.field ≡ None) ⊎ ((lab (suc at)).standing.field ≡ Some field) → (lab (suc at)).standing.gathered ≡ None
+      → first_field (drop (suc at) s.of.code) ≡ Some (name_in (slice_get s.graph.fields field)) → is_visit (drop (suc at) s.of.code) ≡ false → AtCut s lab at
   ToVisit : (field part : ℕ) (h : Holder) → slice_get s.around.fields field ≡ Some h → h.is_partial ≡ true → (lab at).stack ≡ [] → (lab (suc at)).visit ≡ Some part → suc at < part
       → (lab (suc at)).standing.field ≡ None → (lab (suc at)).standing.gathered ≡ None → AtCut s lab at
 

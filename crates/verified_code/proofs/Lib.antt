@@ -14,6 +14,7 @@ pub mod Stopping
 pub mod Bodies
 pub mod Clauses
 pub mod Shapes
+pub mod Firsts
 pub mod Cutting
 pub mod Counting
 pub mod Tasks

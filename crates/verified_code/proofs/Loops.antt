@@ -12,8 +12,9 @@ use Rattle.body_code.specs.Checking as checking
 use Rattle.verified_code.proofs.Labels.{Anything, Label, label, Setting, Knows, Eases, eases_on, same_eases, Good, Agrees, good_both, agrees_left, agrees_right, begins_with, joined, Made}
 use Rattle.verified_code.proofs.Making.{none, both, jump, test}
 use Rattle.verified_code.proofs.Typed.{and_left, and_right}
+use Rattle.verified_code.proofs.Firsts.{no_part_both, Placed, placed_left, placed_right, Headed, tested_first}
 use Rattle.verified_code.proofs.Expressions.{Proper, Anywhere, behind_place}
-use Rattle.verified_code.proofs.Simple.{Whole, Leads, Carries, Pieced, so_is, Covers, covered, takes_is, value_made, value_long, anywhere, same_standing, same_known}
+use Rattle.verified_code.proofs.Simple.{Whole, scope, Leads, Carries, Pieced, so_is, Covers, covered, takes_is, value_made, value_long, anywhere, same_standing, same_known}
 use Rattle.verified_code.proofs.Control.{turn_right, carries_left, carries_right, ends_is, compound_covers, next_of_is}
 use Rattle.verified_code.proofs.Making as making
 
@@ -142,7 +143,7 @@ module _ (s : Setting) (w : Whole s) where
   either_place n at behind other e (inl h) = inl h
   either_place n at behind other e (inr h) = inr (h ∙ e)
 
-  module _ (x : Option Expression) (update : List Piece) (update_checks : List Checking) (body : Piece) (body_check : Checking) (u : Pieced s (in_order update) (checking.in_order update_checks)) (b : Pieced s body body_check) where
+  module _ (x : Option Expression) (update : List Piece) (update_checks : List Checking) (body : Piece) (body_check : Checking) (headed : Headed (in_order update)) (u : Pieced s (in_order update) (checking.in_order update_checks)) (b : Pieced s body body_check) where
     abbrev turn_piece : Piece
     turn_piece = of_instructions (instr.Turn ∷ [])
 
@@ -161,9 +162,9 @@ module _ (s : Setting) (w : Whole s) where
         let many = length-append ((tested c x).from p exits) (instr.Turn ∷ (body.from body_at exits ++ code_u)) in
         omega (arith, e, f, g, many_u, many_b, many)
 
-    passes_made : (Out : (ℕ → Label) → Type 0) (st start after : Standing) → Proper s start → IsPassed st x update_checks body_check start after → ((v : ℕ) → Knows st v → Knows start v) → (p : Place) (to : Exits) (r : ℕ) → Carries s (passes c x update body).carried p.variable
+    passes_made : (Out : (ℕ → Label) → Type 0) (st start after : Standing) → Proper s start → IsPassed st x update_checks body_check start after → ((v : ℕ) → Knows st v → Knows start v) → (p : Place) (to : Exits) (r : ℕ) → Carries s (passes c x update body).carried p.variable → Placed s p.at ((passes c x update body).from p to)
         → Made s Out p.at ((passes c x update body).from p to) start [] (label after [] r)
-    passes_made Out st start after proper h grows p to r carries =
+    passes_made Out st start after proper h grows p to r carries placed =
         let exits : Exits = record { break_to = p.at + (pass c x update body 0).size; continue_to = next_pass p.at (p.at + (tested c x).size + 1 + body.size) update } in
         let turn_at = behind_piece p (tested c x) in
         let body_at = behind_piece turn_at turn_piece in
@@ -174,12 +175,19 @@ module _ (s : Setting) (w : Whole s) where
         let jump_at = update_at.at + (in_order update).size in
         let v : p.variable ≡ body_at.variable = variables x p in
         let rest : Carries s (body.carried ++ ((in_order update).carried ++ [])) body_at.variable = subst (λ (n : ℕ). Carries s (body.carried ++ ((in_order update).carried ++ [])) n) v (carried x p.variable carries) in
+        let B = body.from body_at exits in
+        let U = (in_order update).from update_at exits in
+        let J : List Instr = instr.Jump p.at ∷ [] in
+        let turn_placed = placed_right s p.at turn_at.at ((tested c x).from p exits) (instr.Turn ∷ (B ++ (U ++ J))) (omega (arith, e)) placed in
+        let body_placed = placed_right s turn_at.at body_at.at (instr.Turn ∷ []) (B ++ (U ++ J)) (omega arith) turn_placed in
+        let update_placed = placed_right s body_at.at update_at.at B (U ++ J) (omega (arith, f)) body_placed in
         let t = tested_made x start proper h.tested p exits r in
         let u_made = making.eased s Anywhere update_at.at ((in_order update).from update_at exits) start [] (label h.update_end [] (suc t.rank)) (label start [] (suc t.rank))
-        (u.made None start h.update_end proper h.is_update update_at exits 0 (suc t.rank) (omega arith) (carries_left s (in_order update).carried [] update_at.variable (carries_right s body.carried ((in_order update).carried ++ []) body_at.variable rest)))
+        (u.made None start h.update_end proper h.is_update update_at exits 0 (suc t.rank) (omega arith) (carries_left s (in_order update).carried [] update_at.variable (carries_right s body.carried ((in_order update).carried ++ []) body_at.variable rest)) (placed_left s update_at.at U J tt update_placed))
         (covered h.update_end start [] (suc t.rank) (suc t.rank) (omega arith) h.update_covers) in
         let b_made = making.eased s (Goes start u_made.rank exits.break_to exits.continue_to) body_at.at (body.from body_at exits) start [] (label h.body_end [] u_made.rank) (label start [] u_made.rank)
-        (b.made (Some start) start h.body_end proper h.is_body body_at exits u_made.rank u_made.rank (omega arith) (carries_left s body.carried ((in_order update).carried ++ []) body_at.variable rest))
+        (b.made (Some start) start h.body_end proper h.is_body body_at exits u_made.rank u_made.rank (omega arith) (carries_left s body.carried ((in_order update).carried ++ []) body_at.variable rest)
+        (placed_left s body_at.at B (U ++ J) (no_part_both U J (headed update_at exits) tt) body_placed))
         (covered h.body_end start [] u_made.rank u_made.rank (omega arith) h.body_covers) in
         let end_of : exits.break_to ≡ suc jump_at = omega arith in
         let behind_body : p.at + (tested c x).size + 1 + body.size ≡ update_at.at = omega arith in
@@ -196,6 +204,11 @@ module _ (s : Setting) (w : Whole s) where
         carried None v h = h
         carried (Some x) v h = h
 
+    passes_headed : Headed (passes c x update body)
+    passes_headed p to =
+        let exits : Exits = record { break_to = p.at + (pass c x update body 0).size; continue_to = next_pass p.at (p.at + (tested c x).size + 1 + body.size) update } in
+        no_part_both ((tested c x).from p exits) ((in_order (turn_piece ∷ body ∷ in_order update ∷ of_instructions (instr.Jump p.at ∷ []) ∷ [])).from (behind_piece p (tested c x)) exits) ((tested_first (scope s) x).head p exits) tt
+
     pub loop_done : (start : List Piece) (start_checks : List Checking) → Pieced s (in_order start) (checking.in_order start_checks) → Pieced s (looped c start x update body) (looping s.around start_checks x update_checks body_check)
     loop_done start start_checks a =
         let first = in_order start in
@@ -210,13 +223,15 @@ module _ (s : Setting) (w : Whole s) where
               (let m = next_of_is (passing s.around st x update_checks body_check) (checking.in_order start_checks None st) after e in
               let h = passed_is st x update_checks body_check m.0 after m.2 in
               same_known s w after (after_compound st m.0) h.after_is v known);
-          made = λ exits st after proper e p to least r less carries.
+          made = λ exits st after proper e p to least r less carries placed.
               (let m = next_of_is (passing s.around st x update_checks body_check) (checking.in_order start_checks None st) after e in
               let h = passed_is st x update_checks body_check m.0 after m.2 in
               let Out = Leads exits to least in
               let behind = behind_piece p first in
               let long = a.long p to in
-              let rest = passes_made Out st m.0 after (a.proper None st m.0 proper m.1) h (a.grows None st m.0 m.1) behind to r (carries_right s first.carried second.carried p.variable carries) in
+              let rest = passes_made Out st m.0 after (a.proper None st m.0 proper m.1) h (a.grows None st m.0 m.1) behind to r (carries_right s first.carried second.carried p.variable carries)
+              (placed_right s p.at behind.at (first.from p to) (second.from behind to) (omega (arith, long)) placed) in
               both s Out p.at behind.at (first.from p to) (second.from behind to) st m.0 [] [] (label after [] r) (omega (arith, long)) rest
-              (anywhere s w Out p.at (first.from p to) st [] (label m.0 [] rest.rank) (a.made None st m.0 proper m.1 p to 0 rest.rank (omega arith) (carries_left s first.carried second.carried p.variable carries))));
+              (anywhere s w Out p.at (first.from p to) st [] (label m.0 [] rest.rank) (a.made None st m.0 proper m.1 p to 0 rest.rank (omega arith) (carries_left s first.carried second.carried p.variable carries)
+              (placed_left s p.at (first.from p to) (second.from behind to) (passes_headed behind to) placed))));
         }

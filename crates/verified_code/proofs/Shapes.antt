@@ -304,7 +304,7 @@ module _ (scope : Scope) where
   jumped_shaped : (a : Piece) (ms : List ℕ) → Shaped a ms → Shaped (jumped_over a) ms
   jumped_shaped a ms h = record { calls = λ p to. (tt, h.calls (moved 1 p) to); counts = λ p to. h.counts (moved 1 p) to }
 
-  targeted_quiet : (t : Target) (r : ValueType) → Quiet [] (code.targeted t r)
+  pub targeted_quiet : (t : Target) (r : ValueType) → Quiet [] (code.targeted t r)
   targeted_quiet target.Dropped type.Int = (tt, tt)
   targeted_quiet target.Dropped type.Long = (tt, tt)
   targeted_quiet target.Dropped type.Boolean = (tt, tt)
@@ -313,7 +313,7 @@ module _ (scope : Scope) where
   targeted_quiet (target.Variable v) r = (tt, tt)
   targeted_quiet target.Returned r = (tt, tt)
 
-  dropped_quiet : (ms : List ℕ) (o : Option ValueType) → Quiet ms (dropped o)
+  pub dropped_quiet : (ms : List ℕ) (o : Option ValueType) → Quiet ms (dropped o)
   dropped_quiet ms None = tt
   dropped_quiet ms (Some type.Int) = (tt, tt)
   dropped_quiet ms (Some type.Long) = (tt, tt)
@@ -341,7 +341,7 @@ module _ (scope : Scope) where
             (quiet_counts args p.task ((codes_of c a.args).from p.at) (expressions_quiet c a.args p.at)) (second.counts p to));
       }
 
-  stored_quiet : (xs : List Expression) (v at : ℕ) → Quiet (in_all (map calling xs)) ((stored_from c xs v).from at)
+  pub stored_quiet : (xs : List Expression) (v at : ℕ) → Quiet (in_all (map calling xs)) ((stored_from c xs v).from at)
   stored_quiet [] v at = tt
   stored_quiet (x ∷ xs) v at =
       quiet_joined (calling x) (in_all (map calling xs)) ((behind (code_of c x) (instr.Store v)).from at) ((stored_from c xs (suc v)).from (at + (behind (code_of c x) (instr.Store v)).size))

@@ -31,6 +31,7 @@ use Rattle.verified_code.proofs.Making.{only_one, in_none, Follows, right_by, on
 use Rattle.verified_code.proofs.Making as making
 use Rattle.verified_code.proofs.Typed.{none_some, some_is, same_is, same_are, is_value, are_values, pushed, without_pushed, one_off, and_left, and_right}
 use Rattle.verified_code.proofs.Needed.{IsMet, is_met}
+use Rattle.verified_code.proofs.Firsts.{Placed}
 use Rattle.verified_code.proofs.Expressions.{Fitting, Proper, Anywhere, expressions, several, all_long, all_made, long_behind, long_both, behind_place}
 
 -- the fields of the class are those that the body's accesses name, and the method's result is that of the body
@@ -60,7 +61,7 @@ pub record Pieced (s : Setting) (piece : Piece) (check : Checking) : Type 0 wher
   pub long : (p : Place) (to : Exits) → length (piece.from p to) ≡ piece.size
   pub proper : (exits : Around) (st after : Standing) → Proper s st → check exits st ≡ Some after → Proper s after
   pub grows : (exits : Around) (st after : Standing) → check exits st ≡ Some after → (v : ℕ) → Knows st v → Knows after v
-  pub made : (exits : Around) (st after : Standing) → Proper s st → check exits st ≡ Some after → (p : Place) (to : Exits) (least r : ℕ) → least ≤ r → Carries s piece.carried p.variable
+  pub made : (exits : Around) (st after : Standing) → Proper s st → check exits st ≡ Some after → (p : Place) (to : Exits) (least r : ℕ) → least ≤ r → Carries s piece.carried p.variable → Placed s p.at (piece.from p to)
       → Made s (Leads exits to least) p.at (piece.from p to) st [] (label after [] r)
 
 -- ---- tests that hold
@@ -291,7 +292,7 @@ module _ (s : Setting) (w : Whole s) where
     long = λ p to. long_behind s w.fit (code_of c x) (instr.Store v) (value_long x) p.at;
     proper = λ exits st after proper e. same_standing after (with_known v st) (assigned_is v (type_of c x) (are_met s.around st (needs x)) st after e).after_is proper;
     grows = λ exits st after e u h. same_known after (with_known v st) (assigned_is v (type_of c x) (are_met s.around st (needs x)) st after e).after_is u (still_known u v st h);
-    made = λ exits st after proper e p to least r less carries.
+    made = λ exits st after proper e p to least r less carries placed.
         (let k = assigned_is v (type_of c x) (are_met s.around st (needs x)) st after e in
         let typed : TypedBy s.around st x k.t = record { met = is_met s.around st (needs x) k.is_met; typed = k.typed } in
         let place = p.at + (code_of c x).size in
@@ -332,7 +333,7 @@ module _ (s : Setting) (w : Whole s) where
         long = λ p to. long_behind s w.fit front (instr.VectorSet v) long_front p.at;
         proper = λ exits st after proper e. same_standing after st (set_is v at x st after e).after_is proper;
         grows = λ exits st after e u h. same_known after st (set_is v at x st after e).after_is u h;
-        made = λ exits st after proper e p to least r less carries.
+        made = λ exits st after proper e p to least r less carries placed.
             (let k = set_is v at x st after e in
             let place = p.at + (code_of c at).size in
             let end = p.at + front.size in
@@ -375,7 +376,7 @@ module _ (s : Setting) (w : Whole s) where
     long = λ p to. long_both s w.fit (code_of c x) (plain (dropped (type_of c x))) (value_long x) (λ at. refl) p.at;
     proper = λ exits st after proper e. same_standing after st (evaluated_is x st after e).after_is proper;
     grows = λ exits st after e u h. same_known after st (evaluated_is x st after e).after_is u h;
-    made = λ exits st after proper e p to least r less carries.
+    made = λ exits st after proper e p to least r less carries placed.
         (let k = evaluated_is x st after e in
         let place = p.at + (code_of c x).size in
         subst (λ (z : Standing). Made s (Leads exits to least) p.at ((code_of c x).from p.at ++ dropped (type_of c x)) st [] (label z [] r)) k.after_is
@@ -457,7 +458,7 @@ module _ (s : Setting) (w : Whole s) where
     long = λ p to. long_both s w.fit (codes_of c a.args) (plain (instr.Access (field_name (scope s) a.field) a.method ∷ code.targeted a.target (result_of (code.signature_of (scope s) a.field a.method)))) (values_long a.args) (λ at. refl) p.at;
     proper = λ exits st after proper e. (let k = accessed_is a (checking.signature_of s.around a.field a.method) st after e in targeted_proper a.target k.sig.result st after k.after_is proper);
     grows = λ exits st after e u h. (let k = accessed_is a (checking.signature_of s.around a.field a.method) st after e in targeted_grows a.target k.sig.result st after k.after_is u h);
-    made = λ exits st after proper e p to least r less carries.
+    made = λ exits st after proper e p to least r less carries placed.
         anywhere (Leads exits to least) p.at ((code.access (scope s) a).from p.at) st [] (label after [] r) (access_made a st after proper (accessed_is a (checking.signature_of s.around a.field a.method) st after e) p.at r);
   }
 
@@ -496,7 +497,7 @@ module _ (s : Setting) (w : Whole s) where
     long = λ p to. refl;
     proper = λ exits st after proper e. same_standing after st (jumps_is exits st after e).3 proper;
     grows = λ exits st after e u h. same_known after st (jumps_is exits st after e).3 u h;
-    made = λ exits st after proper e p to least r less carries.
+    made = λ exits st after proper e p to least r less carries placed.
         (let k = jumps_is exits st after e in
         subst (λ (z : Standing). Made s (Leads exits to least) p.at (instr.Jump (exit to) ∷ []) st [] (label z [] r)) k.3
         (jump_made (Leads exits to least) p.at (exit to) st k.0 least r less (covers_is st k.0 k.2)
@@ -515,7 +516,7 @@ module _ (s : Setting) (w : Whole s) where
     long = λ p to. refl;
     proper = λ exits st after proper e. same_standing after st (so_is (is_void s.around.result) st after e).1 proper;
     grows = λ exits st after e u h. same_known after st (so_is (is_void s.around.result) st after e).1 u h;
-    made = λ exits st after proper e p to least r less carries.
+    made = λ exits st after proper e p to least r less carries placed.
         (let k = so_is (is_void s.around.result) st after e in
         subst (λ (z : Standing). Made s (Leads exits to least) p.at (instr.ReturnVoid ∷ []) st [] (label z [] r)) k.1
         (anywhere (Leads exits to least) p.at (instr.ReturnVoid ∷ []) st [] (label st [] r) (void_made p.at st r k.0)));
@@ -526,7 +527,7 @@ module _ (s : Setting) (w : Whole s) where
         long = λ p to. long_behind s w.fit (code_of c x) instr.Return (value_long x) p.at;
         proper = λ exits st after proper e. same_standing after st (so_is (test st) st after e).1 proper;
         grows = λ exits st after e u h. same_known after st (so_is (test st) st after e).1 u h;
-        made = λ exits st after proper e p to least r less carries.
+        made = λ exits st after proper e p to least r less carries placed.
             (let k = so_is (test st) st after e in
             let typed = takes_is s.around st x s.around.result (and_left (takes s.around st x s.around.result) (not (is_void s.around.result)) k.0) in
             let value = and_right (takes s.around st x s.around.result) (not (is_void s.around.result)) k.0 in

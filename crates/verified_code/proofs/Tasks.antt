@@ -61,7 +61,7 @@ module _ (s : Setting) (first : Standing) (code : List Instr) (l : Labelled s fi
 turning_turn : (i : Instr) → Suits i Turning → i ≡ instr.Turn
 turning_turn i h = h
 
-accessing_access : (i : Instr) → Suits i Accessing → (name : List ℕ) × (m : Method) × (i ≡ instr.Access name m)
+pub accessing_access : (i : Instr) → Suits i Accessing → (name : List ℕ) × (m : Method) × (i ≡ instr.Access name m)
 accessing_access (instr.Access name m) h = (name, m, refl)
 accessing_access _ h = absurd h
 
@@ -104,11 +104,11 @@ module _ (class : Class) (program : Program) (live : List (List (List ℕ))) (ty
 
   -- what a task is: the start of a method, or what stands behind a cut or a part
   pub data TaskIs (k : ℕ) (t : Task) : Type 0 where
-    Starts : (n : ℕ) (m : GraphMethod) → IsMethod graph n m → k ≡ start_number flat.methods n → t.method ≡ n → t.at ≡ 0 → t.kind ≡ kind.Start → t.vars ≡ parameters m → TaskIs k t
+    Starts : (n : ℕ) (m : GraphMethod) → IsMethod graph n m → k ≡ start_number flat.methods n → t.method ≡ n → t.at ≡ 0 → t.kind ≡ kind.Start → t.vars ≡ parameters m → m.kind ≡ method_kind.Entry → t.field ≡ None → TaskIs k t
     BehindCut : (n at u : ℕ) (m : GraphMethod) → IsMethod graph n m → slice_get m.code at ≡ Some (instr.Cut u) → k ≡ number_behind flat.methods n m at → t.method ≡ n → t.at ≡ suc at → t.kind ≢ kind.Start → AreLive m.code (suc at) t.vars → TaskIs k t
-    BehindPart : (n at u : ℕ) (m : GraphMethod) → IsMethod graph n m → slice_get m.code at ≡ Some (instr.Part u) → t.method ≡ n → t.at ≡ suc at → t.kind ≡ kind.Join → AreLive m.code (suc at) t.vars → TaskIs k t
+    BehindPart : (n at u : ℕ) (m : GraphMethod) → IsMethod graph n m → slice_get m.code at ≡ Some (instr.Part u) → k ≡ number_behind flat.methods n m at → t.method ≡ n → t.at ≡ suc at → t.kind ≡ kind.Join → AreLive m.code (suc at) t.vars → TaskIs k t
 
-  same_task : (k j : ℕ) (t u : Task) → IsTask graph k t → k ≡ j → IsTask graph j u → u ≡ t
+  pub same_task : (k j : ℕ) (t u : Task) → IsTask graph k t → k ≡ j → IsTask graph j u → u ≡ t
   same_task k j t u is e other = some_is u t (sym other ∙ ap (slice_get graph.tasks) (sym e) ∙ is)
 
   by_cut : (k n at u : ℕ) (m : GraphMethod) (t : Task) → IsTask graph k t → k ≡ number_behind flat.methods n m at → HasEntryCode flat.methods n m at (instr.Cut u) → TaskIs k t
@@ -123,14 +123,14 @@ module _ (class : Class) (program : Program) (live : List (List (List ℕ))) (ty
   by_part k n at u m t is number code =
       let c = behinds.parts n at u m code in
       let same = same_task k (number_behind flat.methods n m at) t c.of is number c.is_task in
-      BehindPart n at u m code.is_method code.is_code (ap (λ (x : Task). x.method) (sym same) ∙ c.in_method) (ap (λ (x : Task). x.at) (sym same) ∙ c.right_behind)
+      BehindPart n at u m code.is_method code.is_code number (ap (λ (x : Task). x.method) (sym same) ∙ c.in_method) (ap (λ (x : Task). x.at) (sym same) ∙ c.right_behind)
       (ap (λ (x : Task). x.kind) (sym same) ∙ c.has_kind) (subst (λ (x : Task). AreLive m.code (suc at) x.vars) same c.variables)
 
   by_start : (k n : ℕ) (m : GraphMethod) (t : Task) → IsTask graph k t → IsMethod graph n m → m.kind ≡ method_kind.Entry → k ≡ start_number flat.methods n → TaskIs k t
   by_start k n m t is is_m entry number =
       let c = behinds.starts n m is_m entry in
       let same = same_task k (start_number flat.methods n) t c.of is number c.is_task in
-      Starts n m is_m number (ap (λ (x : Task). x.method) (sym same) ∙ c.in_method) (ap (λ (x : Task). x.at) (sym same) ∙ c.at_first) (ap (λ (x : Task). x.kind) (sym same) ∙ c.starts) (ap (λ (x : Task). x.vars) (sym same) ∙ c.variables)
+      Starts n m is_m number (ap (λ (x : Task). x.method) (sym same) ∙ c.in_method) (ap (λ (x : Task). x.at) (sym same) ∙ c.at_first) (ap (λ (x : Task). x.kind) (sym same) ∙ c.starts) (ap (λ (x : Task). x.vars) (sym same) ∙ c.variables) entry (ap (λ (x : Task). x.field) (sym same) ∙ c.no_field)
 
   pub task_is : (k : ℕ) (t : Task) → IsTask graph k t → TaskIs k t
   task_is k t is =
@@ -158,9 +158,9 @@ module _ (class : Class) (program : Program) (live : List (List (List ℕ))) (ty
         is_start = c.starts;
         of_method = c.in_method;
         only = λ k t is_task is_start in_method. (elim (task_is k t is_task) [
-          | Starts o x is_x number own_method at_first starting vars ↦ number ∙ ap (start_number flat.methods) (sym own_method ∙ in_method)
+          | Starts o x is_x number own_method at_first starting vars entry no_field ↦ number ∙ ap (start_number flat.methods) (sym own_method ∙ in_method)
           | BehindCut o at u x is_x code numbered own_method behind other vars ↦ absurd (other is_start)
-          | BehindPart o at u x is_x code own_method behind joins vars ↦ absurd (let e : kind.Join ≡ kind.Start = sym joins ∙ is_start in cc)
+          | BehindPart o at u x is_x code numbered own_method behind joins vars ↦ absurd (let e : kind.Join ≡ kind.Start = sym joins ∙ is_start in cc)
         ]);
       }
 
@@ -173,13 +173,13 @@ module _ (class : Class) (program : Program) (live : List (List (List ℕ))) (ty
   no_task : (n before : ℕ) (m : GraphMethod) (i : Instr) → IsMethod graph n m → slice_get m.code before ≡ Some i → (IsEnd i → ⊥) → (k : ℕ) (t : Task) → IsTask graph k t → t.method ≡ n → t.at ≢ suc before
   no_task n before m i is code plain k t is_task in_method at =
       elim (task_is k t is_task) [
-        | Starts o x is_x number own_method at_first starting vars ↦ (omega (arith, at, at_first))
+        | Starts o x is_x number own_method at_first starting vars entry no_field ↦ (omega (arith, at, at_first))
         | BehindCut o place u x is_x cut numbered own_method behind other vars ↦
             (let same : m ≡ x = some_is m x (sym is ∙ ap (slice_get graph.methods) (sym in_method ∙ own_method) ∙ is_x) in
             let here : before ≡ place = omega (arith, at, behind) in
             let both : i ≡ instr.Cut u = some_is i (instr.Cut u) (sym code ∙ ap (λ (y : GraphMethod). slice_get y.code before) same ∙ ap (slice_get x.code) here ∙ cut) in
             plain (subst IsEnd (sym both) tt))
-        | BehindPart o place u x is_x cut own_method behind joins vars ↦
+        | BehindPart o place u x is_x cut numbered own_method behind joins vars ↦
             (let same : m ≡ x = some_is m x (sym is ∙ ap (slice_get graph.methods) (sym in_method ∙ own_method) ∙ is_x) in
             let here : before ≡ place = omega (arith, at, behind) in
             let both : i ≡ instr.Part u = some_is i (instr.Part u) (sym code ∙ ap (λ (y : GraphMethod). slice_get y.code before) same ∙ ap (slice_get x.code) here ∙ cut) in
@@ -188,10 +188,10 @@ module _ (class : Class) (program : Program) (live : List (List (List ℕ))) (ty
 
   -- ---- behind turns and accesses
 
-  abbrev Of : (n : ℕ) (m : GraphMethod) → Type 0
+  abbrev pub Of : (n : ℕ) (m : GraphMethod) → Type 0
   Of n m = Lays class program graph.tasks typed n m
 
-  labels_of : (n : ℕ) (m : GraphMethod) (k : Of n m) → Labelled (setting class program graph.tasks k.m k.b k.task) (at_first k.b) m.code
+  pub labels_of : (n : ℕ) (m : GraphMethod) (k : Of n m) → Labelled (setting class program graph.tasks k.m k.b k.task) (at_first k.b) m.code
   labels_of n m k = subst (λ (z : GraphMethod). Labelled (setting class program graph.tasks k.m k.b k.task) (at_first k.b) z.code) k.is k.labels
 
   spends_behind : (s : Setting) (lab : ℕ → Label) (at : ℕ) (i : Instr) → Right s lab at i → SpendsBefore i → (lab at).behind ≡ Turning
@@ -200,7 +200,7 @@ module _ (class : Class) (program : Program) (live : List (List (List ℕ))) (ty
   spends_behind s lab at (instr.Merge n) r h = r.own.turned
   spends_behind s lab at _ r h = absurd h
 
-  same_method : (n : ℕ) (m x : GraphMethod) → IsMethod graph n m → IsMethod graph n x → x ≡ m
+  pub same_method : (n : ℕ) (m x : GraphMethod) → IsMethod graph n m → IsMethod graph n x → x ≡ m
   same_method n m x e f = some_is x m (sym f ∙ e)
 
   only_behind : (n at before : ℕ) (m : GraphMethod) (i : Instr) (b : Behind) (is : IsMethod graph n m) (k : Of n m) → ((labels_of n m k).lab at).behind ≡ b → b ≢ Anything → at ≡ suc before → slice_get m.code before ≡ Some i → (IsEnd i → ⊥)
@@ -268,7 +268,7 @@ module _ (class : Class) (program : Program) (live : List (List (List ℕ))) (ty
   variables q t m v is_task is needed =
       let alive = needed_live t.method m is v t.at needed in
       elim (task_is q t is_task) [
-        | Starts o x is_x number own_method at_first starting vars ↦
+        | Starts o x is_x number own_method at_first starting vars entry no_field ↦
             (let same : x ≡ m = same_method t.method m x is (ap (slice_get graph.methods) own_method ∙ is_x) in
             let k = lays class program graph.tasks typed t.method m is in
             let live_first : IsLive m.code v 0 = subst (λ (a : ℕ). IsLive m.code v a) at_first alive in
@@ -279,7 +279,7 @@ module _ (class : Class) (program : Program) (live : List (List (List ℕ))) (ty
         | BehindCut o at u x is_x code numbered own_method behind other vars ↦
             (let same : x ≡ m = same_method t.method m x is (ap (slice_get graph.methods) own_method ∙ is_x) in
             vars.whole v (subst (λ (z : GraphMethod). IsLive z.code v (suc at)) (sym same) (subst (λ (a : ℕ). IsLive m.code v a) behind alive)))
-        | BehindPart o at u x is_x code own_method behind joins vars ↦
+        | BehindPart o at u x is_x code numbered own_method behind joins vars ↦
             (let same : x ≡ m = same_method t.method m x is (ap (slice_get graph.methods) own_method ∙ is_x) in
             vars.whole v (subst (λ (z : GraphMethod). IsLive z.code v (suc at)) (sym same) (subst (λ (a : ℕ). IsLive m.code v a) behind alive)))
       ]
@@ -314,12 +314,12 @@ module _ (class : Class) (program : Program) (live : List (List (List ℕ))) (ty
       let at_part = IsReadLater at (suc at) (instr.Part join) way.is_code (none_some v) (IsFirst []) alive in
       let back = back_live n m way.is_method k v at t.at at way.reaches r.own.visit at_part in
       elim (task_is q t is_task) [
-        | Starts o x is_x number own_method at_first starting vars ↦
+        | Starts o x is_x number own_method at_first starting vars entry no_field ↦
             absurd (let first : (l.lab 0).visit ≡ Some at = subst (λ (a : ℕ). (l.lab a).visit ≡ Some at) at_first back.0 in none_some at (sym l.first_is.stays.visit ∙ first))
         | BehindCut o place x_t x is_x code numbered own_method behind other vars ↦
             (let same_m : x ≡ m = same_method n m x way.is_method (ap (slice_get graph.methods) own_method ∙ is_x) in
             vars.whole v (subst (λ (z : GraphMethod). IsLive z.code v (suc place)) (sym same_m) (subst (λ (a : ℕ). IsLive m.code v a) behind back.1)))
-        | BehindPart o place x_t x is_x code own_method behind join_kind vars ↦
+        | BehindPart o place x_t x is_x code numbered own_method behind join_kind vars ↦
             (let same_m : x ≡ m = same_method n m x way.is_method (ap (slice_get graph.methods) own_method ∙ is_x) in
             vars.whole v (subst (λ (z : GraphMethod). IsLive z.code v (suc place)) (sym same_m) (subst (λ (a : ℕ). IsLive m.code v a) behind back.1)))
       ]
@@ -341,7 +341,7 @@ module _ (class : Class) (program : Program) (live : List (List (List ℕ))) (ty
     where
       by : AtAccess s lab at name m → at < part
       by (InBlock f plain g h) = absurd (none_some part (sym plain ∙ e))
-      by (InVisit f sig visit g h a b) = (let same = some_is (suc at) part (sym visit ∙ e) in omega (arith, same))
+      by (InVisit f holder sig is p visit g h a b) = (let same = some_is (suc at) part (sym visit ∙ e) in omega (arith, same))
   visit_next s lab at (instr.Part t) part r e other = absurd (other (some_is at part (sym r.own.visit ∙ e)))
   visit_next s lab at (instr.Cut t) part r e other = absurd (none_some part (sym r.own.plain ∙ e))
   visit_next s lab at instr.Key part r e other = absurd (none_some part (sym r.own.plain ∙ e))
@@ -370,7 +370,7 @@ module _ (class : Class) (program : Program) (live : List (List (List ℕ))) (ty
   begins_before n m k part place u code e = by ((labels_of n m k).right place (instr.Cut u) code).own.to
     where
       by : AtCut (setting class program graph.tasks k.m k.b k.task) (labels_of n m k).lab place → suc place < part
-      by (ToBlock f h is key plain a b) = absurd (none_some part (sym plain ∙ e))
+      by (ToBlock f h is key plain a b first no_visit) = absurd (none_some part (sym plain ∙ e))
       by (ToVisit f q h is p stack visit less a b) = (let same = some_is q part (sym visit ∙ e) in omega (arith, same, less))
 
   same_cut : (n : ℕ) (m : GraphMethod) (k : Of n m) (part p q u w : ℕ) → slice_get m.code p ≡ Some (instr.Cut u) → slice_get m.code q ≡ Some (instr.Cut w) → ((labels_of n m k).lab (suc p)).visit ≡ Some part → ((labels_of n m k).lab (suc q)).visit ≡ Some part → p < q → ⊥
@@ -389,8 +389,8 @@ module _ (class : Class) (program : Program) (live : List (List (List ℕ))) (ty
   visit_cut : (n : ℕ) (m : GraphMethod) (is : IsMethod graph n m) (k : Of n m) (q part : ℕ) (t : Task) → IsTask graph q t → t.kind ≡ kind.Visit → t.method ≡ n → ((labels_of n m k).lab t.at).visit ≡ Some part → VisitCut n m k q part t.at
   visit_cut n m is k q part t is_task visiting in_method visit =
       elim (task_is q t is_task) [
-        | Starts o x is_x number own_method at_first starting vars ↦ absurd (let e : kind.Start ≡ kind.Visit = sym starting ∙ visiting in cc)
-        | BehindPart o place u x is_x code own_method behind join_kind vars ↦ absurd (let e : kind.Join ≡ kind.Visit = sym join_kind ∙ visiting in cc)
+        | Starts o x is_x number own_method at_first starting vars entry no_field ↦ absurd (let e : kind.Start ≡ kind.Visit = sym starting ∙ visiting in cc)
+        | BehindPart o place u x is_x code numbered own_method behind join_kind vars ↦ absurd (let e : kind.Join ≡ kind.Visit = sym join_kind ∙ visiting in cc)
         | BehindCut o place u x is_x code numbered own_method behind other vars ↦
             (let same_n : o ≡ n = sym own_method ∙ in_method in
             let same_m : x ≡ m = same_method n m x is (ap (slice_get graph.methods) (sym same_n) ∙ is_x) in

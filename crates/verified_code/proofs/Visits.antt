@@ -155,7 +155,7 @@ module _ (s : Setting) (w : Whole s) where
   entry_kind : (i : Instr) → is_of_merge i ≡ false → s.around.kind ≡ source_kind.Entry → OfKind s i
   entry_kind i e entry = record { entry = λ h. entry; merge = λ h. absurd (false≢true (sym e ∙ h)) }
 
-  module _ (g : Gather) (sig : Signature) (meets : FieldMeets s g.field g.method sig) (entry : s.around.kind ≡ source_kind.Entry) (st before : Standing) (grown : (v : ℕ) → Knows st v → Knows before v) where
+  module _ (g : Gather) (holder : Holder) (is_field : slice_get s.around.fields g.field ≡ Some holder) (partial : holder.is_partial ≡ true) (sig : Signature) (meets : FieldMeets s g.field g.method sig) (entry : s.around.kind ≡ source_kind.Entry) (st before : Standing) (grown : (v : ℕ) → Knows st v → Knows before v) where
     abbrev name : List ℕ
     name = name_in (slice_get s.graph.fields g.field)
 
@@ -182,7 +182,7 @@ module _ (s : Setting) (w : Whole s) where
           may_read = λ u h. absurd (in_none u h);
           jumps = λ next j. absurd j;
           stays = λ next h. to (λ l. Stays (lab at) l) next h (subst (λ (l : Label). Stays l (parting part (outside before) (on_top sig.result []) (suc r))) here (record { field = inr refl; gathered = inr refl; visit = refl }));
-          own = InVisit g.field sig (subst (λ (l : Label). l.visit ≡ Some (suc at)) here (ap Some part_is)) refl meets.of_graph (subst (λ (l : Label). l.stack ≡ on_top sig.result []) there refl) behind.stays.gathered;
+          own = InVisit g.field holder sig is_field partial (subst (λ (l : Label). l.visit ≡ Some (suc at)) here (ap Some part_is)) refl meets.of_graph (subst (λ (l : Label). l.stack ≡ on_top sig.result []) there refl) behind.stays.gathered;
           suits = subst (λ (l : Label). Suits (instr.Access name g.method) l.behind) there tt;
           kind = entry_kind (instr.Access name g.method) refl entry;
         } in
@@ -231,9 +231,9 @@ module _ (s : Setting) (w : Whole s) where
     labels_begin part r [] stack after = (let e : r + 2 + 0 ≡ r + 2 = omega arith in subst (λ (n : ℕ). Eases (visiting part (outside before) stack n) (visiting part (outside before) stack (r + 2))) (sym e) (visit_eases part (outside before) stack (r + 2)))
     labels_begin part r (t ∷ ts) stack after = visit_eases part (outside before) stack (r + 2 + suc (length ts))
 
-    visit_made : (Out : (ℕ → Label) → Type 0) (at t u v : ℕ) (r : ℕ) (h : Holder) → slice_get s.around.fields g.field ≡ Some h → h.is_partial ≡ true → Holds sig.arguments v → AllKnown before v sig.arguments
+    visit_made : (Out : (ℕ → Label) → Type 0) (at t u v : ℕ) (r : ℕ) → Holds sig.arguments v → AllKnown before v sig.arguments
         → Made s Out at (instr.Turn ∷ instr.Cut t ∷ (map instr.Load (range_with_len v (length sig.arguments)) ++ last_code u)) before [] (label (gathering sig.result st) [] r)
-    visit_made Out at t u v r h is_field partial held known =
+    visit_made Out at t u v r held known =
         let ts = sig.arguments in
         let k = suc (suc at) in
         let part = k + length ts + 1 in
@@ -245,7 +245,7 @@ module _ (s : Setting) (w : Whole s) where
         (λ lab here behind. record {
           plain = ap (λ (l : Label). l.visit) here;
           turned = ap (λ (l : Label). l.behind) here;
-          to = ToVisit g.field part h is_field partial (ap (λ (l : Label). l.stack) here) behind.stays.visit (omega arith) (none_of behind.stays.field) (none_of behind.stays.gathered);
+          to = ToVisit g.field part holder is_field partial (ap (λ (l : Label). l.stack) here) behind.stays.visit (omega arith) (none_of behind.stays.field) (none_of behind.stays.gathered);
         }) in
         let above_m : r + 2 + length ts ≤ m.rank = m.above in
         let long_m = m.long in
@@ -333,7 +333,7 @@ module _ (s : Setting) (w : Whole s) where
         omega (arith, e, f, n, many, more));
     proper = λ exits st after proper e. (let k = gathered_is g (checking.signature_of s.around g.field g.method) st after e in inl k.entry);
     grows = λ exits st after e u h. (let k = gathered_is g (checking.signature_of s.around g.field g.method) st after e in same_known s w after (gathering k.sig.result st) k.after_is u h);
-    made = λ exits st after proper e p to least r less carries.
+    made = λ exits st after proper e p to least r less carries placed.
         (let k = gathered_is g (checking.signature_of s.around g.field g.method) st after e in
         let meets = w.fields g.field g.method k.sig k.is in
         let Out = Leads exits to least in
@@ -346,7 +346,7 @@ module _ (s : Setting) (w : Whole s) where
         let held = holds ts p.variable meets.values carried in
         let v : p.variable ≡ visit_at.variable = omega arith in
         let many : length ts ≡ length g.args = sym (types_many g.args ts k.typed) in
-        let visited = visit_made g k.sig meets k.entry st before (know_more p.variable ts st) Out cut_at.at cut_at.task visit_at.task p.variable r k.holder k.is_field k.partial held (all_known p.variable ts st) in
+        let visited = visit_made g k.holder k.is_field k.partial k.sig meets k.entry st before (know_more p.variable ts st) Out cut_at.at cut_at.task visit_at.task p.variable r held (all_known p.variable ts st) in
         let tail : List Instr = instr.Access (code.field_name (scope s) g.field) g.method ∷ instr.Part visit_at.task ∷ [] in
         let by_place : Made s Out cut_at.at (instr.Turn ∷ instr.Cut cut_at.task ∷ (map instr.Load (range_with_len visit_at.variable (length ts)) ++ tail)) before [] (label (gathering k.sig.result st) [] r) =
         subst (λ (n : ℕ). Made s Out cut_at.at (instr.Turn ∷ instr.Cut cut_at.task ∷ (map instr.Load (range_with_len n (length ts)) ++ tail)) before [] (label (gathering k.sig.result st) [] r)) v visited in
