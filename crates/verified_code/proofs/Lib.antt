@@ -18,6 +18,11 @@ pub mod Firsts
 pub mod Cutting
 pub mod Counting
 pub mod Tasks
+pub mod Ways
+pub mod Begun
+pub mod Stacks
+pub mod InTasks
 pub mod Sound
 pub mod Names
-pub mod WellCut
+pub mod RightTasks
+pub mod Verified

@@ -3,4 +3,4 @@
 
 mod law;
 
-pub use law::{typed_classes_are_sound, typed_classes_are_well_cut};
+pub use law::{typed_classes_are_sound, typed_classes_are_verified};
