@@ -1,0 +1,4 @@
+pub mod Classes
+pub mod Known
+pub mod Laws
+pub mod Beginning
