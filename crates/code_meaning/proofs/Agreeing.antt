@@ -15,7 +15,7 @@ use Rattle.body_code.specs.Early.{is_in}
 use Rattle.body_code.specs.Typing.{Context, Needs, variable_type, variable_type_in, one_type}
 use Rattle.body_code.specs.Checking.{Surroundings, Standing, with_known, same_number, same_value, is_none, are_known, covers, has_key, is_merge_of, takes_values, takes_gathered, are_met, is_type, are_types, takes}
 use Rattle.code_meaning.specs.Evaluating.{AreOf, HasSame, MergesThese, Meets}
-use Rattle.code_meaning.specs.Running.{Ground, IsGround, FieldsAgree, Agrees}
+use Rattle.code_meaning.specs.Running.{Below, Ground, IsGround, FieldsAgree, Agrees}
 use Rattle.code_meaning.proofs.Lists.{none_some, both_true, get_within, get_set, get_set_other, length_set, same_or_not}
 use Rattle.code_meaning.proofs.Values.{same_is, same_are}
 
@@ -63,11 +63,6 @@ are_types_are None ts is = absurd (false≢true is)
 are_types_are (Some us) ts is = ap Some (same_are us ts is)
 
 -- ---- what a standing has of another one
-
-pub record Below (a b : Standing) : Type 0 where
-  pub known : (v : ℕ) → is_in v b.known ≡ true → is_in v a.known ≡ true
-  pub field : (f : ℕ) → b.field ≡ Some f → a.field ≡ Some f
-  pub gathered : (t : ValueType) → b.gathered ≡ Some t → a.gathered ≡ Some t
 
 none_or_same : {A : Type 0} (same : Option A → Option A → Bool) → ((x y : Option A) → same x y ≡ true → x ≡ y) → (a b : Option A) → (is_none b || same a b) ≡ true → (x : A) → b ≡ Some x → a ≡ Some x
 none_or_same same h a None is x e = absurd (none_some x e)

@@ -12,10 +12,10 @@ use Rattle.body_code.specs.StatementCode.{Exits}
 use Rattle.body_code.specs.Checking.{Standing, Around}
 use Rattle.code_meaning.specs.Laid.{frame, Leads}
 use Rattle.code_meaning.specs.Evaluating.{IsValue, Evaluates}
-use Rattle.code_meaning.specs.Running.{Ground, FieldsAgree, Agrees, GoesTo, Completes}
+use Rattle.code_meaning.specs.Running.{Below, Ground, FieldsAgree, Agrees, GoesTo, Completes}
 use Rattle.code_meaning.proofs.Running.{one_step, stays, leads_on, ends_on, stops_on, wider, ends_wider, stops_wider}
 use Rattle.code_meaning.proofs.Operands.{on_stack}
-use Rattle.code_meaning.proofs.Agreeing.{Below, agrees_below}
+use Rattle.code_meaning.proofs.Agreeing.{agrees_below}
 
 module _ {g : Ground} where
   -- ---- a run before

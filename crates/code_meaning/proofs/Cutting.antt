@@ -2,10 +2,11 @@
 use Rattle.std.proofs.Common.{◌≡◌, refl, subst, ℕ, zero, suc, ◌+◌, arith, true, not, List, [], ◌∷◌, Option, Some, None, slice_get}
 use Rattle.std.proofs.lemmas.Bool.{false≢true}
 use Rattle.sdg_base.specs.declared.val.Val.{Val}
+use Rattle.sdg_base.specs.declared.val.Outcome.TheVariants as outcome
 use Rattle.sdg_base.specs.declared.value_type.ValueType.TheVariants as type
 use Rattle.state_classes.specs.States.{State}
 use Rattle.flat_code.specs.declared.graph.Instr.TheVariants as instr
-use Rattle.flat_code.specs.Machine.{Frame}
+use Rattle.flat_code.specs.Machine.{Frame, CutTo}
 use Rattle.access_blocks.specs.declared.body.Expression.{Expression}
 use Rattle.access_blocks.specs.declared.body.Holder.{Holder}
 use Rattle.access_blocks.specs.declared.body.Mark.{Mark}
@@ -17,7 +18,7 @@ use Rattle.access_blocks.specs.Source.{Move, Rests, At, at_mark, having, spendin
 use Rattle.body_code.specs.ExpressionCode.{code_of}
 use Rattle.body_code.specs.StatementCode.{Place, Exits, Piece, cut, then_piece, of_code, behind_piece, key_code}
 use Rattle.body_code.specs.Checking.{Surroundings, Standing, takes, is_key_of}
-use Rattle.code_meaning.specs.Laid.{IsLaid, frame, Leads}
+use Rattle.code_meaning.specs.Laid.{IsLaid, frame, Leads, EndsSo, Stops}
 use Rattle.code_meaning.specs.Evaluating.{Evaluates}
 use Rattle.code_meaning.specs.Running.{Ground, IsGround, scope_on, Agrees}
 use Rattle.code_meaning.specs.Cutting.{stack_of, RestsSo, MarksAreCuts}
@@ -27,21 +28,31 @@ use Rattle.code_meaning.proofs.Sizes.{code_sized}
 use Rattle.code_meaning.proofs.Operands.{on_stack}
 use Rattle.code_meaning.proofs.Simple.{evaluates_taken}
 
-key_taken : (around : Surroundings) (st : Standing) (o : Option Holder) (key : Expression) → is_key_of around st o (Some key) ≡ true → takes around st key type.Long ≡ true
+pub key_taken : (around : Surroundings) (st : Standing) (o : Option Holder) (key : Expression) → is_key_of around st o (Some key) ≡ true → takes around st key type.Long ≡ true
 key_taken around st None key is = absurd (false≢true is)
 key_taken around st (Some h) key is = (both_true (not h.is_partial) (takes around st key type.Long) is).1
+
+-- a turn is spent, and then comes the cut
+pub cut_after : (g : Ground) {n at task left : ℕ} {f : Frame} {state : State} {stack variables : List Val} → Leads g.setting g.code n f state (frame at stack variables (suc left)) state → IsLaid g.code at (instr.Turn ∷ instr.Cut task ∷ [])
+    → EndsSo g.setting g.code (n + 2) f state (CutTo task) (frame (at + 1) stack variables left) state
+cut_after g {n} {at} {task} {left} {f} {state} {stack} {variables} q laid =
+    let e : suc at ≡ at + 1 = omega arith in
+    let turn : Leads g.setting g.code 1 (frame at stack variables (suc left)) state (frame (at + 1) stack variables left) state = leads_to g.setting g.code e (one_step g.setting g.code instr.Turn laid.0 refl (omega arith)) in
+    let there : slice_get g.code (at + 1) ≡ Some (instr.Cut task) = subst (λ k. slice_get g.code k ≡ Some (instr.Cut task)) e laid.1.0 in
+    ends_wider g.setting g.code (omega arith) (ends_on g.setting g.code q (ends_on g.setting g.code turn (one_end g.setting g.code (instr.Cut task) there refl)))
+
+-- where none is left
+pub no_turn_left : (g : Ground) {n at task : ℕ} {f : Frame} {state : State} {stack variables : List Val} → Leads g.setting g.code n f state (frame at stack variables zero) state → IsLaid g.code at (instr.Turn ∷ instr.Cut task ∷ [])
+    → Stops g.setting g.code (n + 2) f state outcome.Limit state
+no_turn_left g q laid = stops_wider g.setting g.code (omega arith) (stops_on g.setting g.code q (one_stop g.setting g.code instr.Turn laid.0 refl))
 
 module _ (g : Ground) (mark : Mark) (block : Statement) (frames : List source.Frame) where
   -- a turn, and the cut
   cuts : {n at task : ℕ} {f : Frame} {state : State} {variables : List Val} (m : Machine) (key : Option Val) (left : ℕ) → Leads g.setting g.code n f state (frame at (stack_of key) variables left) state
       → IsLaid g.code at (instr.Turn ∷ instr.Cut task ∷ [])
       → RestsSo g (n + 2) f state task (at + 1) variables m (spending left m (λ left. Rests (At mark.field key block (standing frames m left)) m.fields))
-  cuts m key zero q laid = (stops_wider g.setting g.code (omega arith) (stops_on g.setting g.code q (one_stop g.setting g.code instr.Turn laid.0 refl)), refl)
-  cuts {n} {at} {task} {f} {state} {variables} m key (suc left) q laid =
-      let e : suc at ≡ at + 1 = omega arith in
-      let turn : Leads g.setting g.code 1 (frame at (stack_of key) variables (suc left)) state (frame (at + 1) (stack_of key) variables left) state = leads_to g.setting g.code e (one_step g.setting g.code instr.Turn laid.0 refl (omega arith)) in
-      let there : slice_get g.code (at + 1) ≡ Some (instr.Cut task) = subst (λ k. slice_get g.code k ≡ Some (instr.Cut task)) e laid.1.0 in
-      (ends_wider g.setting g.code (omega arith) (ends_on g.setting g.code q (ends_on g.setting g.code turn (one_end g.setting g.code (instr.Cut task) there refl))), refl, refl)
+  cuts m key zero q laid = (no_turn_left g q laid, refl)
+  cuts m key (suc left) q laid = (cut_after g q laid, refl, refl)
 
   keyed : {n at task : ℕ} {f : Frame} {state : State} {variables : List Val} (m : Machine) (x : Ended Val) → Evaluates g.setting g.code n f state at [] variables type.Long x → IsLaid g.code at (instr.Turn ∷ instr.Cut task ∷ [])
       → RestsSo g (n + 2) f state task (at + 1) variables m (having x m (λ k turns. spending turns m (λ left. Rests (At mark.field (Some k) block (standing frames m left)) m.fields)))

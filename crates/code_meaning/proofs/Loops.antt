@@ -16,13 +16,13 @@ use Rattle.body_code.specs.StatementCode as code
 use Rattle.body_code.specs.Checking.{Standing, Around, Checking, is_condition}
 use Rattle.code_meaning.specs.Laid.{IsSizedPiece, IsLaid, frame, Leads, EndsSo}
 use Rattle.code_meaning.specs.Evaluating.{Evaluates}
-use Rattle.code_meaning.specs.Running.{Ground, IsGround, Agrees, GoesTo, Completes}
+use Rattle.code_meaning.specs.Running.{Below, Ground, IsGround, Agrees, GoesTo, Completes}
 use Rattle.code_meaning.proofs.Lists.{none_some, some_is}
 use Rattle.code_meaning.proofs.Running.{laid_two, one_step, one_turn, one_stop, stays, leads_on, stops_on, wider, leads_to, stops_wider}
 use Rattle.code_meaning.proofs.Evaluations.{boolean_cases}
 use Rattle.code_meaning.proofs.Sizes.{code_sized}
 use Rattle.code_meaning.proofs.Operands.{on_stack}
-use Rattle.code_meaning.proofs.Agreeing.{Below, agrees_below, agrees_fewer}
+use Rattle.code_meaning.proofs.Agreeing.{agrees_below, agrees_fewer}
 use Rattle.code_meaning.proofs.Completing.{completes_on, completes_wider}
 use Rattle.code_meaning.proofs.PieceSizes.{tested_sized, way_back, updated, bodied, turned}
 use Rattle.code_meaning.proofs.Simple.{Does, evaluates_taken}

@@ -80,19 +80,19 @@ targeted_sized : (scope : Scope) (a : Access) → IsSized (access scope a)
 targeted_sized scope a =
     followed_sized (codes_of scope.context a.args) (plain (instr.Access (field_name scope a.field) a.method ∷ targeted a.target (result_of (signature_of scope a.field a.method)))) (codes_sized scope.context a.args) (λ at. refl)
 
-stored_sized : (c : Context) (xs : List Expression) (v : ℕ) → IsSized (stored_from c xs v)
+pub stored_sized : (c : Context) (xs : List Expression) (v : ℕ) → IsSized (stored_from c xs v)
 stored_sized c [] v at = refl
 stored_sized c (x ∷ xs) v at = followed_sized (behind (code_of c x) (instr.Store v)) (stored_from c xs (suc v)) (behind_sized (code_of c x) (instr.Store v) (code_sized c x)) (stored_sized c xs (suc v)) at
 
 -- The variables that are stored to do not change the size.
-stored_size : (c : Context) (xs : List Expression) (v w : ℕ) → (stored_from c xs v).size ≡ (stored_from c xs w).size
+pub stored_size : (c : Context) (xs : List Expression) (v w : ℕ) → (stored_from c xs v).size ≡ (stored_from c xs w).size
 stored_size c [] v w = refl
 stored_size c (x ∷ xs) v w = ap (λ n. (code_of c x).size + 1 + n) (stored_size c xs (suc v) (suc w))
 
 pub stored_piece_sized : (c : Context) (xs : List Expression) → IsSizedPiece (stored c xs)
 stored_piece_sized c xs p exits = stored_sized c xs p.variable p.at ∙ stored_size c xs p.variable 0
 
-loads_length : (v n : ℕ) → length (map instr.Load (range_with_len v n)) ≡ n
+pub loads_length : (v n : ℕ) → length (map instr.Load (range_with_len v n)) ≡ n
 loads_length v zero = refl
 loads_length v (suc n) = ap suc (loads_length (v + 1) n)
 
@@ -102,7 +102,7 @@ visit_sized scope g p exits =
     let y = loads_length p.variable (length g.args) in
     omega arith
 
-key_sized : (scope : Scope) (key : Option Expression) → IsSized (key_code scope key)
+pub key_sized : (scope : Scope) (key : Option Expression) → IsSized (key_code scope key)
 key_sized scope None at = refl
 key_sized scope (Some x) at = code_sized scope.context x at
 

@@ -21,12 +21,12 @@ use Rattle.body_code.specs.StatementCode.{Place, Exits, Piece, moved, behind_pie
 use Rattle.body_code.specs.Checking.{Surroundings, Standing, Around, Checking, after_compound, meet, common, same_number, same_value, compound, met, takes, is_condition, ends_as, covers, checked_step, checked, checked_list}
 use Rattle.body_code.specs.Checking as checking
 use Rattle.code_meaning.specs.Laid.{IsSizedPiece, IsLaid, frame, Leads}
-use Rattle.code_meaning.specs.Running.{Ground, IsGround, scope_on, Agrees, Completes, all_plain, plain_step, is_plain, PlainStatementsDoWhatTheyMean}
+use Rattle.code_meaning.specs.Running.{Below, Ground, IsGround, scope_on, Agrees, Completes, all_plain, plain_step, is_plain, PlainStatementsDoWhatTheyMean}
 use Rattle.code_meaning.proofs.Lists.{none_some, some_is, both_true}
 use Rattle.code_meaning.proofs.Running.{laid_two, one_step, leads_to}
 use Rattle.code_meaning.proofs.Evaluations.{boolean_cases}
 use Rattle.code_meaning.proofs.Sizes.{code_sized}
-use Rattle.code_meaning.proofs.Agreeing.{agrees_below, Below, same_number_is, same_value_is, covers_below, agrees_fewer}
+use Rattle.code_meaning.proofs.Agreeing.{agrees_below, same_number_is, same_value_is, covers_below, agrees_fewer}
 use Rattle.code_meaning.proofs.Completing.{completes_on, completes_wider, completes_to, completes_below, after_goes, completes_already, value_goes, completes_jump}
 use Rattle.code_meaning.proofs.PieceSizes.{guarded_sized, piece_sized, pieces_sized}
 use Rattle.code_meaning.proofs.Growing.{Grows, AllGrow, if_so_is, if_then, next_is, checked_grows, list_checked_grows}
@@ -153,7 +153,7 @@ module _ {g : Ground} (ground : IsGround g) where
 
   -- ---- loops
 
-  passing_is : (before st end : Standing) (test : Option Expression) (cu cb : Checking) → checking.if_so (is_condition g.around st test && (ends_as st (cb (Some st) st) && ends_as st (cu None st))) (after_compound before st) ≡ Some end
+  pub passing_is : (before st end : Standing) (test : Option Expression) (cu cb : Checking) → checking.if_so (is_condition g.around st test && (ends_as st (cb (Some st) st) && ends_as st (cu None st))) (after_compound before st) ≡ Some end
       → (is_condition g.around st test ≡ true) × ((stb : Standing) × (cb (Some st) st ≡ Some stb) × Below stb st) × ((stu : Standing) × (cu None st ≡ Some stu) × Below stu st) × (after_compound before st ≡ end)
   passing_is before st end test cu cb is =
       let k = if_so_is (is_condition g.around st test && (ends_as st (cb (Some st) st) && ends_as st (cu None st))) (after_compound before st) end is in

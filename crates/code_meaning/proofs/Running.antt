@@ -135,6 +135,17 @@ module _ (s : Setting) (code : List Instr) where
     };
   }
 
+  -- an end, and an access that is refused, in one step
+  pub end_step : (i : Instr) (f g : Frame) (state : State) (ending : Ending) → slice_get code f.at ≡ Some i → perform_on s i f.stack f ≡ Some (Ends ending g) → (n : ℕ)
+      → run_within (1 + n) s code f state ≡ Some (record { ending = ending; frame = g; state = state })
+  end_step i f g state ending is does n = performed n i f state (Some (Ends ending g)) is does
+
+  pub refused_step : (i : Instr) (m : Method) (args : List Val) (f g : Frame) (state next : State) (how : Outcome) → slice_get code f.at ≡ Some i → perform_on s i f.stack f ≡ Some (Accesses m args g)
+      → called m args state ≡ (how, next) → ((v : Val) → how ≡ outcome.Value v → ⊥) → (n : ℕ) → run_within (1 + n) s code f state ≡ Some (record { ending = Stopped how; frame = g; state = next })
+  refused_step i m args f g state next (outcome.Value v) is does answers other n = absurd (other v refl)
+  refused_step i m args f g state next (outcome.Throws x) is does answers other n = performed n i f state (Some (Accesses m args g)) is does ∙ ap (after_access (run_within n s code) g) answers
+  refused_step i m args f g state next outcome.Limit is does answers other n = performed n i f state (Some (Accesses m args g)) is does ∙ ap (after_access (run_within n s code) g) answers
+
   -- ---- runs one after the other
 
   pub stays : {f : Frame} {state : State} → Leads s code 0 f state f state

@@ -41,7 +41,7 @@ use Rattle.body_code.specs.Checking.{Surroundings, Standing, Around, Checking, w
 use Rattle.body_code.specs.Checking as checking
 use Rattle.code_meaning.specs.Laid.{IsLaid, frame, Leads}
 use Rattle.code_meaning.specs.Evaluating.{IsValue, HasSame, Evaluates}
-use Rattle.code_meaning.specs.Running.{Ground, IsGround, scope_on, FieldsAgree, Agrees, Completes}
+use Rattle.code_meaning.specs.Running.{Below, Ground, IsGround, scope_on, FieldsAgree, Agrees, Completes}
 use Rattle.code_meaning.proofs.Lists.{none_some, some_is, both_true}
 use Rattle.code_meaning.proofs.Values.{same_is, are_same}
 use Rattle.code_meaning.proofs.States.{Answers, OutcomeHas, call_answers, call_keeps}
@@ -49,7 +49,7 @@ use Rattle.code_meaning.proofs.Running.{laid_two, one_step, one_end, one_stop, o
 use Rattle.code_meaning.proofs.Sizes.{followed_sized, code_sized, codes_sized}
 use Rattle.code_meaning.proofs.Operands.{on_stack, variable_has_value, pushed_all, arguments_are}
 use Rattle.code_meaning.proofs.Expressions.{EvaluatesAll, expression_right, expressions_right}
-use Rattle.code_meaning.proofs.Agreeing.{Below, covers_below, agrees_below, agrees_fewer, agrees_set, variable_within, meets_of, is_type_is, are_types_are, same_number_is}
+use Rattle.code_meaning.proofs.Agreeing.{covers_below, agrees_below, agrees_fewer, agrees_set, variable_within, meets_of, is_type_is, are_types_are, same_number_is}
 use Rattle.code_meaning.proofs.Sites.{part_is, class_is, fields_set}
 use Rattle.code_meaning.proofs.Completing.{completes_on, completes_wider, completes_to, completes_below, valued_goes, value_goes}
 use Rattle.code_meaning.proofs.Growing.{if_so_is, if_then}
@@ -423,7 +423,7 @@ module _ {g : Ground} (ground : IsGround g) where
   access_is a (Some sig) st end is = let k = if_then (is_access g.around a sig st) (checking.targeted g.around a.target sig.result st) end is in (sig, refl, k.0, k.1)
 
   -- the instruction of an access calls the method of the field
-  access_works : (field : ℕ) (on : g.site ≡ Some field) (k : Method) (sig : Signature) (args : List Val) (f : Frame) → signature (ground.site_agrees field on).holder.class k ≡ Some sig → map values.type_of args ≡ sig.arguments
+  pub access_works : (field : ℕ) (on : g.site ≡ Some field) (k : Method) (sig : Signature) (args : List Val) (f : Frame) → signature (ground.site_agrees field on).holder.class k ≡ Some sig → map values.type_of args ≡ sig.arguments
       → f.stack ≡ pushed_all args []
       → perform_on g.setting (instr.Access (code.field_name (scope_on g) field) k) (pushed_all args []) f ≡ Some (Accesses k args (record { at = suc f.at; stack = []; variables = f.variables; turns = f.turns }))
   access_works field on k sig args f is has stacked =

@@ -1,9 +1,9 @@
 -- The part of a field that is the state of the code.
-use Rattle.std.proofs.Common.{◌≡◌, refl, sym, ap, ◌∙◌, ℕ, zero, suc, List, [], ◌∷◌, Some, slice_get, slice_set}
+use Rattle.std.proofs.Common.{◌≡◌, refl, sym, ap, subst, ◌∙◌, ℕ, zero, suc, true, List, [], ◌∷◌, Option, Some, None, is_some, slice_get, slice_set}
 use Rattle.state_classes.specs.States.{State, class_of}
 use Rattle.access_blocks.specs.Statements.{Field, Whole, Instances, Machine, part_of, with_part, changed_field, with_state}
 use Rattle.code_meaning.specs.Running.{Ground, SiteAgrees, fields_with, FieldsAgree}
-use Rattle.code_meaning.proofs.Lists.{get_within, get_set}
+use Rattle.code_meaning.proofs.Lists.{none_some, get_within, get_set}
 
 set_set : {A : Type 0} (xs : List A) (i : ℕ) (x y : A) → slice_set (slice_set xs i x) i y ≡ slice_set xs i y
 set_set [] i x y = refl
@@ -22,6 +22,18 @@ part_twice (Instances states) i a b = ap Instances (set_set states i a b)
 with_there : (fields : List Field) (field i : ℕ) (state : State) (old : Field) → slice_get fields field ≡ Some old
     → changed_field (slice_get fields field) field state fields i ≡ slice_set fields field (with_part old i state)
 with_there fields field i state old is = ap (λ o. changed_field o field state fields i) is
+
+-- Where a part is there, one is there after it has changed.
+pub part_stays : (field f : ℕ) (old state : State) (m : Machine) → part_of (slice_get m.fields field) m.instance ≡ Some old → field ≡ f
+    → is_some (part_of (slice_get (with_state field state m).fields f) (with_state field state m).instance) ≡ true
+part_stays field f old state m is same = subst (λ n. is_some (part_of (slice_get (with_state field state m).fields n) m.instance) ≡ true) same (by (slice_get m.fields field) refl is)
+  where
+    by : (o : Option Field) → slice_get m.fields field ≡ o → part_of o m.instance ≡ Some old → is_some (part_of (slice_get (changed_field (slice_get m.fields field) field state m.fields m.instance) field) m.instance) ≡ true
+    by None e h = absurd (none_some old h)
+    by (Some there) e h =
+        ap (λ fields. is_some (part_of (slice_get fields field) m.instance)) (with_there m.fields field m.instance state there e)
+        ∙ ap (λ o. is_some (part_of o m.instance)) (get_set m.fields field (with_part there m.instance state) (get_within m.fields field there e))
+        ∙ ap is_some (part_set there m.instance old state h)
 
 module _ {g : Ground} (field : ℕ) (on : g.site ≡ Some field) (site : SiteAgrees g field) where
   set_fields : {state : State} {m : Machine} → FieldsAgree g state m → m.fields ≡ slice_set g.fields field (with_part site.old g.instance state)

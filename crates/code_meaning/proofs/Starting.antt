@@ -25,14 +25,13 @@ use Rattle.access_blocks.specs.declared.body.Statement.TheOpen as s
 use Rattle.access_blocks.specs.declared.body.Statement.TheFolds.{fold-roll-Statement, ind-Statement, map-Statement}
 use Rattle.access_blocks.specs.Calls.{start_value}
 use Rattle.body_code.specs.Typing.{Context, type_by, one_type, type_of, needs, needs_of_all, variable_type, variable_type_in}
-use Rattle.body_code.specs.Early.{Assigned, is_in, if_early, early_after, assigned_step, assigned_in, to_target, all_of}
+use Rattle.body_code.specs.Early.{Assigned, with_reads, key_reads, is_in, if_early, early_after, assigned_step, assigned_in, to_target, all_of}
 use Rattle.body_code.specs.ClassCode.{var_type_by, start_code, start_of, set_at_start}
 use Rattle.body_code.specs.Checking.{Surroundings, Standing, Around, Checking, with_known, is_type, met, takes, checked_step, checked, checked_list}
 use Rattle.body_code.specs.Checking as checking
 use Rattle.code_meaning.specs.Laid.{IsLaid, frame, Leads}
 use Rattle.code_meaning.specs.Evaluating.{HasSame}
-use Rattle.code_meaning.specs.Running.{all_plain, plain_step, is_plain}
-use Rattle.code_meaning.proofs.Lists.{none_some, some_is, both_true, get_within, get_set, get_set_other, length_set, same_or_not}
+use Rattle.code_meaning.proofs.Lists.{none_some, some_is, get_within, get_set, get_set_other, length_set, same_or_not}
 use Rattle.code_meaning.proofs.Running.{laid_parts, one_step, stays, leads_on, leads_to}
 use Rattle.code_meaning.proofs.Growing.{next_is, if_so_is, if_then}
 use Rattle.code_meaning.proofs.Agreeing.{is_type_is, in_more}
@@ -51,6 +50,11 @@ TypedIn around check all = (loop : Around) (st end : Standing) → check loop st
 both_typed : (P : Assigned → Type 0) (xs ys : List Assigned) → AllByRecursion P xs → AllByRecursion P ys → AllByRecursion P (xs ++ ys)
 both_typed P [] ys hx hy = hy
 both_typed P (x ∷ xs) ys hx hy = (hx.0, both_typed P xs ys hx.1 hy)
+
+-- Where more is read, the same is assigned.
+reads_typed : (P : Assigned → Type 0) → ((a b : Assigned) → a.variable ≡ b.variable → P a → P b) → (reads : List ℕ) (xs : List Assigned) → AllByRecursion P xs → AllByRecursion P (map (with_reads reads) xs)
+reads_typed P keep reads [] h = tt
+reads_typed P keep reads (x ∷ xs) h = (keep x (with_reads reads x) refl h.0, reads_typed P keep reads xs h.1)
 
 to_typed : (around : Surroundings) (v : ℕ) (t : ValueType) (st end : Standing) → checking.to_variable around v t st ≡ Some end → HasType around.context v
 to_typed around v t st end is = record { type = t; is = is_type_is (variable_type around.context v) t (if_so_is (is_type (variable_type around.context v) t) (with_known v st) end is).0 }
@@ -74,16 +78,13 @@ module _ (around : Surroundings) where
   Is a = HasType around.context a.variable
 
   abbrev IsRight : Statement → Type 0
-  IsRight x = is_plain x ≡ true → TypedIn around (checked around x) (assigned_in x)
+  IsRight x = TypedIn around (checked around x) (assigned_in x)
 
   abbrev Part : Type 0
   Part = (x : Statement) × IsRight x
 
   abbrev bare : Statement-F Part → Statement-F Statement
   bare = map-Statement Part Statement (λ x. x.0)
-
-  abbrev plains : Statement-F Statement → Statement-F Bool
-  plains = map-Statement Statement Bool is_plain
 
   abbrev checks : Statement-F Statement → Statement-F Checking
   checks = map-Statement Statement Checking (checked around)
@@ -92,58 +93,54 @@ module _ (around : Surroundings) where
   assigns = map-Statement Statement (List Assigned) assigned_in
 
   abbrev LayerRight : Statement-F Statement → Type 0
-  LayerRight y = plain_step (plains y) ≡ true → TypedIn around (checked_step around (checks y)) (assigned_step (assigns y))
+  LayerRight y = TypedIn around (checked_step around (checks y)) (assigned_step (assigns y))
 
-  list_right : (xs : List Part) → all_plain (map is_plain (map (λ (x : Part). x.0) xs)) ≡ true → TypedIn around (checked_list around (map (λ (x : Part). x.0) xs)) (all_of (map assigned_in (map (λ (x : Part). x.0) xs)))
-  list_right [] is loop st end checked_is = tt
-  list_right (x ∷ xs) is loop st end checked_is =
-      let k = both_true (is_plain x.0) (all_plain (map is_plain (map (λ (y : Part). y.0) xs))) is in
+  list_right : (xs : List Part) → TypedIn around (checked_list around (map (λ (x : Part). x.0) xs)) (all_of (map assigned_in (map (λ (x : Part). x.0) xs)))
+  list_right [] loop st end checked_is = tt
+  list_right (x ∷ xs) loop st end checked_is =
       let n = next_is (checked_list around (map (λ (y : Part). y.0) xs) loop) (checked around x.0 loop st) end checked_is in
-      both_typed Is (assigned_in x.0) (all_of (map assigned_in (map (λ (y : Part). y.0) xs))) (x.1 k.0 loop st n.0 n.1) (list_right xs k.1 loop n.0 end n.2)
+      both_typed Is (assigned_in x.0) (all_of (map assigned_in (map (λ (y : Part). y.0) xs))) (x.1 loop st n.0 n.1) (list_right xs loop n.0 end n.2)
 
   layer_right : (y : Statement-F Part) → LayerRight (bare y)
-  layer_right (s.Assign v x) plain loop st end is = (assigned_typed around v (type_of around.context x) (checking.are_met around st (needs x)) st end is, tt)
-  layer_right (s.Access a) plain loop st end is = access_typed around a (checking.signature_of around a.field a.method) st end is
-  layer_right (s.Gather a) plain loop st end is = absurd (false≢true plain)
-  layer_right (s.Marked mark body) plain loop st end is = absurd (false≢true plain)
-  layer_right (s.Opened body) plain loop st end is = let k = opened_is st (checked around body.0 loop (checking.outside st)) end is in body.1 plain loop (checking.outside st) k.0 k.1
-  layer_right (s.Block items) plain loop st end is =
-      let k = compound_is st (checked_list around (map (λ (x : Part). x.0) items) loop st) end is in list_right items plain loop st k.0 k.1
-  layer_right (s.If test first None) plain loop st end is =
+  layer_right (s.Assign v x) loop st end is = (assigned_typed around v (type_of around.context x) (checking.are_met around st (needs x)) st end is, tt)
+  layer_right (s.Access a) loop st end is = access_typed around a (checking.signature_of around a.field a.method) st end is
+  layer_right (s.Marked mark body) loop st end is =
+      reads_typed Is (λ a b same h. subst (HasType around.context) same h) (key_reads mark.key) (assigned_in body.0)
+      (body.1 loop (checking.in_block mark.field st) end
+      (if_then (checking.is_entry around.kind && checking.is_key_of around st (slice_get around.fields mark.field) mark.key) (checked around body.0 loop (checking.in_block mark.field st)) end is).1)
+  layer_right (s.Opened body) loop st end is = let k = opened_is st (checked around body.0 loop (checking.outside st)) end is in body.1 loop (checking.outside st) k.0 k.1
+  layer_right (s.Block items) loop st end is =
+      let k = compound_is st (checked_list around (map (λ (x : Part). x.0) items) loop st) end is in list_right items loop st k.0 k.1
+  layer_right (s.If test first None) loop st end is =
       let l = met_is st (checked around first.0 loop st) (Some st) end (if_then (takes around st test type.Boolean) (met st (checked around first.0 loop st) (Some st)) end is).1 in
-      both_typed Is (assigned_in first.0) [] (first.1 (both_true (is_plain first.0) true plain).0 loop st l.0 l.2) tt
-  layer_right (s.If test first (Some second)) plain loop st end is =
-      let k = both_true (is_plain first.0) (is_plain second.0) plain in
+      both_typed Is (assigned_in first.0) [] (first.1 loop st l.0 l.2) tt
+  layer_right (s.If test first (Some second)) loop st end is =
       let l = met_is st (checked around first.0 loop st) (checked around second.0 loop st) end (if_then (takes around st test type.Boolean) (met st (checked around first.0 loop st) (checked around second.0 loop st)) end is).1 in
-      both_typed Is (assigned_in first.0) (assigned_in second.0) (first.1 k.0 loop st l.0 l.2) (second.1 k.1 loop st l.1 l.3)
-  layer_right (s.Loop start test update body) plain loop st end is =
+      both_typed Is (assigned_in first.0) (assigned_in second.0) (first.1 loop st l.0 l.2) (second.1 loop st l.1 l.3)
+  layer_right (s.Loop start test update body) loop st end is =
       let ss = map (λ (x : Part). x.0) start in
       let us = map (λ (x : Part). x.0) update in
-      let k = both_true (all_plain (map is_plain ss)) (is_plain body.0 && all_plain (map is_plain us)) plain in
-      let l = both_true (is_plain body.0) (all_plain (map is_plain us)) k.1 in
       let n = next_is (checking.passing around st test (map (checked around) us) (checked around body.0)) (checked_list around ss None st) end is in
       let q = passing_is around st n.0 end test (checked_list around us) (checked around body.0) n.2 in
-      both_typed Is (all_of (map assigned_in ss)) (all_of (map assigned_in us) ++ assigned_in body.0) (list_right start k.0 None st n.0 n.1)
-      (both_typed Is (all_of (map assigned_in us)) (assigned_in body.0) (list_right update l.1 None n.0 q.1.0 q.1.1) (body.1 l.0 (Some n.0) n.0 q.0.0 q.0.1))
-  layer_right _ plain loop st end is = tt
+      both_typed Is (all_of (map assigned_in ss)) (all_of (map assigned_in us) ++ assigned_in body.0) (list_right start None st n.0 n.1)
+      (both_typed Is (all_of (map assigned_in us)) (assigned_in body.0) (list_right update None n.0 q.1.0 q.1.1) (body.1 (Some n.0) n.0 q.0.0 q.0.1))
+  layer_right _ loop st end is = tt
 
   made_right : (x : Statement-F Statement) (y : Statement-F Part) → bare y ≡ x → IsRight (roll-Statement x)
   made_right x y is =
-      let b = fold-roll-Statement Bool plain_step x in
       let c = fold-roll-Statement Checking (checked_step around) x in
       let a = fold-roll-Statement (List Assigned) assigned_step x in
-      let whole : IsRight (roll-Statement x) ≡ LayerRight x = λ i. b i ≡ true → TypedIn around (c i) (a i) in
+      let whole : IsRight (roll-Statement x) ≡ LayerRight x = λ i. TypedIn around (c i) (a i) in
       transport (sym whole) (subst LayerRight is (layer_right y))
 
   statement_typed : (x : Statement) → IsRight x
   statement_typed = ind-Statement IsRight made_right
 
-  pub list_typed : (xs : List Statement) → all_plain (map is_plain xs) ≡ true → TypedIn around (checked_list around xs) (all_of (map assigned_in xs))
-  list_typed [] is loop st end checked_is = tt
-  list_typed (x ∷ xs) is loop st end checked_is =
-      let k = both_true (is_plain x) (all_plain (map is_plain xs)) is in
+  pub list_typed : (xs : List Statement) → TypedIn around (checked_list around xs) (all_of (map assigned_in xs))
+  list_typed [] loop st end checked_is = tt
+  list_typed (x ∷ xs) loop st end checked_is =
       let n = next_is (checked_list around xs loop) (checked around x loop st) end checked_is in
-      both_typed Is (assigned_in x) (all_of (map assigned_in xs)) (statement_typed x k.0 loop st n.0 n.1) (list_typed xs k.1 loop n.0 end n.2)
+      both_typed Is (assigned_in x) (all_of (map assigned_in xs)) (statement_typed x loop st n.0 n.1) (list_typed xs loop n.0 end n.2)
 
 -- ---- which variables are set early: typed ones that are no parameters
 

@@ -4,3 +4,11 @@ pub mod Running
 pub mod Foreseen
 pub mod Calling
 pub mod Cutting
+pub mod Placed
+pub mod Frames
+pub mod Resting
+pub mod Stepping
+pub mod Steps
+pub mod Entries
+pub mod Standing
+pub mod Following

@@ -79,6 +79,12 @@ pub record FieldsAgree (g : Ground) (state : State) (m : Machine) : Type 0 where
   pub same_instance : m.instance ≡ g.instance
   pub of_class : (field : ℕ) (h : Holder) → g.site ≡ Some field → slice_get g.around.fields field ≡ Some h → class_of state ≡ h.class
 
+-- What holds in the second holds in the first.
+pub record Below (a b : Standing) : Type 0 where
+  pub known : (v : ℕ) → is_in v b.known ≡ true → is_in v a.known ≡ true
+  pub field : (f : ℕ) → b.field ≡ Some f → a.field ≡ Some f
+  pub gathered : (t : ValueType) → b.gathered ≡ Some t → a.gathered ≡ Some t
+
 -- variables and a state of the code, and a machine of the source, where this holds
 pub record Agrees (g : Ground) (st : Standing) (variables : List Val) (state : State) (m : Machine) : Type 0 where
   pub known : (v : ℕ) → is_in v st.known ≡ true → HasSame g.around.context variables m.variables v

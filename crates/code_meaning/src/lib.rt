@@ -3,4 +3,4 @@
 
 mod law;
 
-pub use law::flat_code_means_its_source;
+pub use law::{calls_stand_at_their_code, flat_code_means_its_source};
