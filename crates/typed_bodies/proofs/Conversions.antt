@@ -1,5 +1,5 @@
 -- Conversions and operators give what the rules on types say.
-use Rattle.std.proofs.Common.{◌≡◌, ℕ, ℤ, Bool, true, false, not, ◌&&◌, ◌||◌, List, Option, Some, None, if◌then◌else◌, slice_get, map, refl, sym, ap, ap₂, subst, ◌∙◌}
+use Rattle.std.proofs.Common.{◌≡◌, ℕ, ℤ, Bool, true, false, not, List, Option, Some, if◌then◌else◌, slice_get, refl, sym, ap, subst, ◌∙◌}
 use Rattle.sdg_base.specs.declared.operator.BinOp.{BinOp}
 use Rattle.sdg_base.specs.declared.operator.BinOp.TheVariants as bin
 use Rattle.sdg_base.specs.declared.operator.UnOp.{UnOp}
@@ -12,7 +12,7 @@ use Rattle.sdg_base.specs.Types.{binary_type, unary_type, arithmetic_type, shift
 use Rattle.java_tree.specs.declared.types.ValueType.{ValueType}
 use Rattle.java_tree.specs.declared.types.ValueType.TheVariants as value
 use Rattle.java_tree.specs.declared.types.ExprType.{ExprType}
-use Rattle.java_tree.specs.declared.types.ExprType.TheVariants.{Unknown, Void, Value, Collection, State}
+use Rattle.java_tree.specs.declared.types.ExprType.TheVariants.{Unknown, Value, State}
 use Rattle.access_blocks.specs.declared.body.Expression.{Expression}
 use Rattle.access_blocks.specs.declared.body.Expression.{roll-Expression}
 use Rattle.access_blocks.specs.declared.body.Expression.TheOpen.{Expression-F}

@@ -1,39 +1,38 @@
 -- Calls of what a name or a member stands for.
-use Rattle.std.proofs.Common.{◌≡◌, ℕ, suc, Bool, true, false, not, ◌&&◌, ◌||◌, nat_eq, List, [], ◌∷◌, ◌++◌, length, map, slice_get, option_map, Option, Some, None, if◌then◌else◌, refl, sym, ap, subst, ◌∙◌, arith}
-use Rattle.std.specs.Str.{bytes_eq}
+use Rattle.std.proofs.Common.{◌≡◌, ℕ, suc, Bool, true, false, not, nat_eq, List, [], ◌∷◌, ◌++◌, length, map, drop, Option, Some, None, refl, sym, ap, subst, ◌∙◌, arith}
 use Rattle.std.proofs.lemmas.Bool.Decides.{nat_tests}
 use Rattle.sdg_base.specs.declared.value_type.ValueType.{ValueType as SignatureType}
 use Rattle.sdg_base.specs.declared.value_type.ValueType.TheVariants as type
-use Rattle.sdg_base.specs.Signatures.{Signature, state_method, vector_method}
-use Rattle.state_classes.specs.Methods.{method_named}
-use Rattle.java_tree.specs.declared.types.ValueType.{ValueType}
-use Rattle.java_tree.specs.declared.types.ValueType.TheVariants as value
+use Rattle.sdg_base.specs.Signatures.{Signature}
 use Rattle.java_tree.specs.declared.types.ExprType.{ExprType}
-use Rattle.java_tree.specs.declared.types.ExprType.TheVariants.{Unknown, Void, Value, Collection, State}
 use Rattle.java_tree.specs.declared.types.Declaration.{Declaration}
-use Rattle.java_tree.specs.declared.types.Declaration.TheVariants as declaration
 use Rattle.java_types.specs.declared.methods.Shape.{Shape}
 use Rattle.java_types.specs.declared.walk.Env.{Env}
 use Rattle.java_types.specs.declared.walk.Walk.{Walk}
 use Rattle.java_types.specs.Fits.{is_known, unless}
 use Rattle.java_types.specs.Methods.{params_of, method_of}
 use Rattle.java_types.specs.Laws as laws
-use Rattle.java_types.specs.Walks.{Typing, past, noted, named}
-use Rattle.java_types.specs.Expressions.{Argument, Callee, callee_of, of, arguments, answered, call_of}
+use Rattle.java_types.specs.Walks.{Typing, past}
+use Rattle.java_types.specs.Expressions.{Argument, Callee, callee_of, of, arguments, call_of}
+use Rattle.std.specs.List.{list_all}
+use Rattle.java_types.specs.declared.methods.Params.{Params}
+use Rattle.java_types.specs.declared.methods.Params.TheVariants as parameters
+use Rattle.annotations.specs.declared.position.Position.{Position}
+use Rattle.annotations.specs.declared.position.Position.TheVariants.{Inside}
+use Rattle.annotations.specs.declared.walk.Walk.{Walk as Marking}
+use Rattle.annotations.specs.Expressions as marking
 use Rattle.access_blocks.specs.declared.body.Expression.{Expression}
-use Rattle.access_blocks.specs.declared.body.Expression.TheVariants as x
-use Rattle.access_blocks.specs.declared.resolved.Invoked.{Invoked}
-use Rattle.access_blocks.specs.Cursors.{Cursor, Read, read, name_here, behind_name, behind_site, site_here, variable_of}
-use Rattle.access_blocks.specs.Resolving.{Resolving, wanted_by, params_by, vector_call, vector_step, access_step, accessed, chosen, class_at, of_step}
+use Rattle.access_blocks.specs.Cursors.{Cursor, Read}
+use Rattle.access_blocks.specs.Resolving.{Resolving, wanted_by, argument, params_by, vector_call, vector_step, access_step, accessed, chosen, class_at, of_step}
 use Rattle.access_blocks.specs.Resolving as resolving
-use Rattle.body_code.specs.Typing.{types_of, type_of, variable_type, type_by}
-use Rattle.typed_bodies.specs.Reading.{Place, IsSound, Adds, Stands, Reads, Follows, IsOfType, cursor_at, is_plain, are_plain}
-use Rattle.typed_bodies.specs.Expressions.{IsCall, IsInvoked, ArePassed, is_access, is_field, begins_plainly}
-use Rattle.typed_bodies.proofs.Steps.{Unbroken, unbroken, noted_follows, past_follows, past_quiet, then_made}
-use Rattle.typed_bodies.proofs.Conversions.{variable_is}
-use Rattle.typed_bodies.proofs.Arguments.{ReadsArgument, arguments_follow, known_typed}
-use Rattle.typed_bodies.proofs.Names.{AddsName, Names, names, known_there, named_first, with_variable}
-use Rattle.typed_bodies.proofs.Signed.{IsAnswered, vector_typed, no_access_vector, access_typed}
+use Rattle.body_code.specs.Typing.{needs, needs_of_all}
+use Rattle.typed_bodies.specs.Marking.{Passes, IsKey}
+use Rattle.typed_bodies.specs.Needing.{IsWithin}
+use Rattle.typed_bodies.specs.Reading.{Place, Follows, are_plain}
+use Rattle.typed_bodies.specs.Expressions.{all_marked}
+use Rattle.typed_bodies.proofs.Steps.{unbroken, noted_follows, past_follows}
+use Rattle.typed_bodies.proofs.Arguments.{ReadsArgument, arguments_follow}
+use Rattle.typed_bodies.proofs.Signed.{IsAnswered}
 
 same_some : {A : Type 0} {x y : A} → Some x ≡ Some y → x ≡ y
 same_some e = cc
@@ -95,13 +94,13 @@ length_map : {A B : Type 0} (f : A → B) (xs : List A) → length (map f xs) �
 length_map f [] = refl
 length_map f (x ∷ xs) = ap suc (length_map f xs)
 
-record Agreed (s : Shape) (o : Option Signature) : Type 0 where
-  it : Signature
-  is : o ≡ Some it
-  params : params_of s.params ≡ map wanted_by it.arguments
-  result : s.result ≡ wanted_by it.result
+pub record Agreed (s : Shape) (o : Option Signature) : Type 0 where
+  pub it : Signature
+  pub is : o ≡ Some it
+  pub params : params_of s.params ≡ map wanted_by it.arguments
+  pub result : s.result ≡ wanted_by it.result
 
-agreed : (s : Shape) (o : Option Signature) → laws.Agree (Some s) o → Agreed s o
+pub agreed : (s : Shape) (o : Option Signature) → laws.Agree (Some s) o → Agreed s o
 agreed s None e = absurd (cc)
 agreed s (Some it) e =
     let same : laws.types_of_shape s ≡ laws.types_of_signature it = same_some e in
@@ -112,19 +111,33 @@ where_holds true t e = refl
 where_holds false t e = absurd (cc)
 
 -- what is known of a call behind a dot
-pub record Dotted (p : Place) (owner : ExprType) (name : List ℕ) (o : Option Signature) (found : ExprType) (names : List Declaration) (args : List Expression) : Type 0 where
+pub record Dotted (p : Place) (owner : ExprType) (name : List ℕ) (o : Option Signature) (found : ExprType) (ms : List marking.Argument) (names : List Declaration) (args : List Expression) : Type 0 where
   pub has_method : is_known owner ≡ true → (s : Shape) × (method_of owner name ≡ Some s)
+  pub within : are_plain p names ≡ true → IsWithin p (needs_of_all args)
+  pub grows : (position : Position) (u : Marking) → (all_marked p.marks position ms u).findings ≡ [] → u.findings ≡ []
+  pub inside : is_known owner ≡ true → Passes p (all_marked p.marks Inside ms) false names
+  pub key : (u : Marking) (rest : List Declaration) → drop u.used p.marks.names ≡ names ++ rest → IsKey p (marking.first_key ms u) (needs (argument args 0))
   pub answered : are_plain p names ≡ true → is_known owner ≡ true → laws.Agree (method_of owner name) o → IsAnswered p.context o found args
 
-module _ {Arg : Type 0} (p : Place) (pass : Arg → Argument) (reads : Arg → Resolving) (each : (x : Arg) → ReadsArgument p (pass x) (reads x)) where
+params_known : (ps : Params) → list_all is_known (params_of ps) ≡ true
+params_known parameters.Nothing = refl
+params_known parameters.Key = refl
+params_known parameters.KeyAndValue = refl
+params_known parameters.RowColumnAndValue = refl
+params_known parameters.RowAndCount = refl
+params_known parameters.Vector = refl
+params_known parameters.Index = refl
+params_known parameters.IndexAndValue = refl
+
+module _ {Arg : Type 0} (p : Place) (pass : Arg → Argument) (reads : Arg → Resolving) (marked : Arg → marking.Argument) (each : (x : Arg) → ReadsArgument p (pass x) (reads x) (marked x)) where
   pub dotted_follows : (at : ℕ) (t : Typing) (name : List ℕ) (args : List Arg) (o : Option Signature) → (call_of p.env at t name (map pass args)).walk.findings ≡ []
       → Follows p t.walk (call_of p.env at t name (map pass args)).walk (resolving.arguments (params_by o) (map reads args))
-      (Dotted p t.found name o (call_of p.env at t name (map pass args)).found)
+      (Dotted p t.found name o (call_of p.env at t name (map pass args)).found (map marked args))
   dotted_follows at t name args o quiet =
       let count = length (map pass args) in
       let c = of p.env at t.found name count t.walk in
       let end = arguments p.env (params_of c.shape.params) (map pass args) c.walk in
-      let passed = arguments_follow p p.env (params_of c.shape.params) (params_by o) pass reads each args c.walk quiet in
+      let passed = arguments_follow p p.env (params_of c.shape.params) (params_by o) pass reads marked each args c.walk quiet in
       let in_shape = shaped p.env at t.found name count t.walk passed.added.no_findings in
       of_follows p _ _ p.env at t.found name count t.walk (record {
         added = passed.added;
@@ -134,6 +147,12 @@ module _ {Arg : Type 0} (p : Place) (pass : Arg → Argument) (reads : Arg → R
               behind = r.behind;
               fits = record {
                 has_method = λ there. let s = in_shape there in (s.it, s.is);
+                within = r.fits.within;
+                grows = r.fits.grows;
+                inside = λ there.
+                    let s = in_shape there in
+                    r.fits.inside (params_known c.shape.params) (ap (λ (ps : Params). length (params_of ps)) s.params ∙ (s.counted ∙ length_map pass args));
+                key = r.fits.key;
                 answered = λ plain there agree.
                     let s = in_shape there in
                     let a = agreed s.it o (subst (λ (m : Option Shape). laws.Agree m o) s.is agree) in

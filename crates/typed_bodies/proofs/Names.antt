@@ -1,6 +1,5 @@
 -- A name that the walk passes, and that is read.
-use Rattle.std.proofs.Common.{◌≡◌, ℕ, Bool, true, false, List, [], ◌∷◌, ◌++◌, length, Option, Some, None, refl, sym, ap, ap₂, subst, ◌∙◌, append_assoc}
-use Rattle.std.specs.Str.{bytes_eq}
+use Rattle.std.proofs.Common.{◌≡◌, ℕ, true, false, List, [], ◌∷◌, ◌++◌, length, Option, Some, None, refl, sym, ap, subst, ◌∙◌, append_assoc}
 use Rattle.java_tree.specs.declared.types.ExprType.{ExprType}
 use Rattle.java_tree.specs.declared.types.Declaration.{Declaration}
 use Rattle.java_tree.specs.declared.types.Declaration.TheVariants as declaration
@@ -8,10 +7,10 @@ use Rattle.java_types.specs.declared.walk.Env.{Env}
 use Rattle.java_types.specs.declared.walk.Variable.{Variable}
 use Rattle.java_types.specs.declared.walk.Walk.{Walk}
 use Rattle.java_types.specs.Names.{entry_of}
-use Rattle.java_types.specs.Walks.{Typing, past, noted, variable, used_as, named, first_of}
-use Rattle.access_blocks.specs.Cursors.{Cursor, Read, read, name_here, behind_name, variable_of}
-use Rattle.typed_bodies.specs.Reading.{Place, Adds, Stands, Reads, InStep, Follows, cursor_at, known_as}
-use Rattle.typed_bodies.proofs.Steps.{Unbroken, unbroken, name_stands, name_passed}
+use Rattle.java_types.specs.Walks.{Typing, past, variable, used_as, named, first_of}
+use Rattle.access_blocks.specs.Cursors.{Cursor, Read, name_here, behind_name, variable_of}
+use Rattle.typed_bodies.specs.Reading.{Place, Adds, Reads, Follows, cursor_at, known_as}
+use Rattle.typed_bodies.proofs.Steps.{unbroken, name_stands, name_passed}
 
 -- the walk adds this name alone
 pub record AddsName (w v : Walk) (d : Declaration) : Type 0 where
@@ -47,7 +46,7 @@ pub known_there : (p : Place) (name : List ℕ) (w : Walk) {v : Variable} → w.
 unfolding variable
 known_there p name w known is = ap (λ (vs : List (List ℕ × Variable)). first_of (entry_of name vs) (entry_of name p.env.fields)) (sym known) ∙ is
 
-variable_by : (d : Option Declaration) (c k : Cursor) → c.variables ≡ k.variables → c.locals ≡ k.locals → variable_of c d ≡ variable_of k d
+pub variable_by : (d : Option Declaration) (c k : Cursor) → c.variables ≡ k.variables → c.locals ≡ k.locals → variable_of c d ≡ variable_of k d
 variable_by (Some (declaration.Parameter m)) c k e f = refl
 variable_by (Some (declaration.Local m)) c k e f =
     ap (λ (vs : List _). variable_of (record { names = []; types = []; sites = []; variables = vs; locals = c.locals }) (Some (declaration.Local m))) e

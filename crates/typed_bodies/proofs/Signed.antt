@@ -1,5 +1,5 @@
 -- Calls of the methods of vectors and of fields, by what their signatures take and give.
-use Rattle.std.proofs.Common.{◌≡◌, ℕ, suc, zero, Bool, true, false, not, ◌&&◌, List, [], ◌∷◌, length, map, slice_get, slice_index_or, Option, Some, None, codes, if◌then◌else◌, refl, sym, ap, subst, ◌∙◌}
+use Rattle.std.proofs.Common.{◌≡◌, ℕ, Bool, true, false, List, [], ◌∷◌, Option, Some, None, codes, if◌then◌else◌, refl, sym, ap, subst, ◌∙◌}
 use Rattle.std.specs.Str.{bytes_eq}
 use Rattle.sdg_base.specs.declared.store.ClassName.{ClassName}
 use Rattle.sdg_base.specs.declared.store.ClassName.TheVariants as class_name
@@ -11,7 +11,7 @@ use Rattle.state_classes.specs.declared.method.Method.{Method}
 use Rattle.state_classes.specs.Methods.{method_text, method_named, signature}
 use Rattle.state_classes.specs.Methods as methods
 use Rattle.java_tree.specs.declared.types.ExprType.{ExprType}
-use Rattle.java_tree.specs.declared.types.ExprType.TheVariants.{Unknown, Void, Value, Collection, State}
+use Rattle.java_tree.specs.declared.types.ExprType.TheVariants.{Value}
 use Rattle.java_types.specs.Fits.{is_void}
 use Rattle.access_blocks.specs.declared.body.Choice.{Choice}
 use Rattle.access_blocks.specs.declared.body.Expression.{Expression}
@@ -42,7 +42,7 @@ typed_both None (Some us) t ts e = absurd (cc)
 typed_both (Some s) None t ts e = absurd (cc)
 typed_both (Some s) (Some us) t ts e = ((cc), (cc))
 
-first_typed : (c : Context) (args : List Expression) (t : SignatureType) (ts : List SignatureType) → types_of c args ≡ Some (t ∷ ts) → type_of c (argument args 0) ≡ Some t
+pub first_typed : (c : Context) (args : List Expression) (t : SignatureType) (ts : List SignatureType) → types_of c args ≡ Some (t ∷ ts) → type_of c (argument args 0) ≡ Some t
 first_typed c [] t ts e = absurd (cc)
 first_typed c (a ∷ args) t ts e = (typed_both (type_of c a) (types_of c args) t ts e).0
 
@@ -172,6 +172,12 @@ paired : (class : ClassName) → Paired class (methods.methods_of class) (method
 paired class_name.Table = (refl, refl, (refl, refl, (refl, refl, (refl, refl, (refl, refl, (refl, refl, tt))))))
 paired class_name.Matrix = (refl, refl, (refl, refl, (refl, refl, (refl, refl, (refl, refl, (refl, refl, tt))))))
 paired class_name.Counter = (refl, refl, (refl, refl, (refl, refl, tt)))
+
+-- the method that has the signature of this name
+pub named_method : (class : ClassName) (name : List ℕ) (sig : Signature) → state_method class name ≡ Some sig → (m : Method) × (method_named class name ≡ Some m) × (signature class m ≡ Some sig)
+named_method class name sig is =
+    let m = both_named class (methods.methods_of class) (methods_of class) (paired class) name sig is in
+    (m.it, m.is, m.of_class)
 
 pub access_typed : (p : Place) (field : ℕ) (how : Choice) (name : List ℕ) (found : ExprType) (args : List Expression)
     → IsAnswered p.context (state_method (class_at p.scope field) name) found args

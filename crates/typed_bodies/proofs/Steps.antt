@@ -1,19 +1,16 @@
 -- Walks and readings one after another.
-use Rattle.std.proofs.Common.{◌≡◌, ℕ, ◌&&◌, Bool, true, false, List, [], ◌∷◌, ◌++◌, length, nat_lt, slice_set, slice_get, drop, unwrap_or, Option, Some, None, if◌then◌else◌, refl, sym, ap, subst, ◌∙◌, append_assoc, arith}
-use Rattle.std.specs.List.{list_all}
+use Rattle.std.proofs.Common.{◌≡◌, ℕ, Bool, true, false, List, [], ◌∷◌, ◌++◌, length, nat_lt, slice_set, slice_get, drop, unwrap_or, Some, if◌then◌else◌, refl, sym, ap, subst, ◌∙◌, append_assoc, arith}
 use Rattle.std.proofs.lemmas.List.{append-nil, length-append}
 use Rattle.std.proofs.lemmas.Bool.Decides.{nat_tests}
-use Rattle.std.proofs.lemmas.List.Folds.{list_all-append}
 use Rattle.std.proofs.Math.Seq.{set-append_seam}
 use Rattle.java_tree.specs.declared.types.ExprType.{ExprType}
 use Rattle.java_tree.specs.declared.types.ExprType.TheVariants.{Unknown}
 use Rattle.java_tree.specs.declared.types.Declaration.{Declaration}
 use Rattle.java_types.specs.declared.walk.Env.{Env}
-use Rattle.java_types.specs.declared.walk.Finding.{Finding}
 use Rattle.java_types.specs.declared.walk.Walk.{Walk}
 use Rattle.java_types.specs.Walks.{past, past_if, noted, opened, closed}
-use Rattle.access_blocks.specs.Cursors.{Cursor, Read, read, type_here, behind_type, name_here, behind_name, variable_of}
-use Rattle.typed_bodies.specs.Reading.{Place, Adds, Stands, Reads, InStep, Follows, cursor_at, is_plain, are_plain}
+use Rattle.access_blocks.specs.Cursors.{Cursor, Read, read, type_here, behind_type, name_here, behind_name}
+use Rattle.typed_bodies.specs.Reading.{Place, Adds, Stands, Reads, InStep, Follows}
 
 -- ---- walks
 

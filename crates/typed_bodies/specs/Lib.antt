@@ -1,3 +1,12 @@
 pub mod Reading
+pub mod Needing
+pub mod Marking
+pub mod Wholes
 pub mod Expressions
 pub mod Laws
+pub mod Targets
+pub mod WholeLaws
+pub mod Parts
+pub mod PartLaws
+pub mod StayLaws
+pub mod Bodies

@@ -7,9 +7,10 @@ use Rattle.java_tree.specs.declared.types.ExprType.{ExprType}
 use Rattle.java_tree.specs.declared.types.ExprType.TheVariants as types
 use Rattle.java_tree.specs.declared.types.Declaration.{Declaration}
 use Rattle.java_tree.specs.declared.types.Declaration.TheVariants as declaration
-use Rattle.java_tree.specs.declared.method_kinds.MethodKind.{MethodKind}
-use Rattle.java_tree.specs.declared.method_kinds.MethodKind.TheVariants.{Helper}
+use Rattle.java_tree.specs.declared.method_kinds.MethodKind.TheVariants.{Helper, Merge}
 use Rattle.sdg_base.specs.declared.value_type.ValueType.TheVariants as type
+use Rattle.annotations.specs.declared.walk.Env.{Env as MarkingEnv}
+use Rattle.annotations.specs.Walks as marking
 use Rattle.java_types.specs.declared.walk.Env.{Env}
 use Rattle.java_types.specs.declared.walk.Signature.{Signature}
 use Rattle.java_types.specs.declared.walk.Variable.{Variable}
@@ -49,6 +50,8 @@ pub record Place : Type 0 where
   -- whether each local so far is `@Partial`
   pub partial : List Bool
   pub context : Context
+  -- what the rules on annotations know of the class
+  pub marks : MarkingEnv
 
 -- a cursor there, with nothing to read
 abbrev pub cursor_at : Place → Cursor
@@ -82,15 +85,23 @@ pub record IsOneMethod (p : Place) (s : Signature) : Type 0 where
   pub is_callee : slice_get p.context.methods s.number ≡ Some callee
   pub kind : callee.kind ≡ s.kind
   pub takes : s.kind ≡ Helper → s.params ≡ map wanted_by callee.params
+  pub merged : s.kind ≡ Merge → (item : ValueType) × (s.params ≡ types.Collection item ∷ []) × (callee.params ≡ type_by item ∷ [])
   pub gives : s.result ≡ wanted_by callee.result
 
--- What the rules on types know of names agrees with what names are resolved to, and with the types of that.
+abbrev pub is_method : Declaration → Bool
+is_method (declaration.Method n) = true
+is_method _ = false
+
+-- What the rules on types know of names agrees with what names are resolved to, with the types of that, and with what the rules on
+-- annotations know of them.
 pub record IsSound (p : Place) : Type 0 where
   pub variables : (name : List ℕ) (v : Variable) → known_as p name ≡ Some v → is_plain p v.declaration ≡ true
       → IsOfType p.context v.found (x.Variable (variable_of (cursor_at p) (Some v.declaration)))
   pub fields : (name : List ℕ) (v : Variable) (field : ℕ) → known_as p name ≡ Some v → v.declaration ≡ declaration.Field field
       → v.found ≡ types.State (class_at p.scope field)
+  pub no_methods : (name : List ℕ) (v : Variable) → known_as p name ≡ Some v → is_method v.declaration ≡ false
   pub methods : (name : List ℕ) (s : Signature) → entry_of name p.env.methods ≡ Some s → IsOneMethod p s
+  pub merging : (n : ℕ) → merges (slice_get p.scope.methods n) ≡ marking.is_merge (slice_get p.marks.methods n)
 
 -- ---- a walk, and a reading
 

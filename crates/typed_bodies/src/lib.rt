@@ -3,4 +3,4 @@
 
 mod law;
 
-pub use law::expressions_are_typed;
+pub use law::{expressions_are_typed, parts_are_typed, parts_stay, wholes_are_typed};
