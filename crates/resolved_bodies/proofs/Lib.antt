@@ -1,0 +1,9 @@
+pub mod Going
+pub mod ExpressionsGo
+pub mod CallsInHeaders
+pub mod Heading
+pub mod ValuesGo
+pub mod SimplesGo
+pub mod LoopHeaders
+pub mod StatementsGo
+pub mod MethodHeaders
