@@ -25,9 +25,9 @@ pub fn wholes_are_typed()
 {}
 
 /// A local without initialiser starts with a value of its type. A condition in which no rule has a finding is
-/// a truth value that reads no site, where each variable in
-/// scope has a value. A compound assignment of a value that fits its operator gives the variable a value of
-/// its own type, and so do `++` and `--` on a number. It does nothing when it runs.
+/// a truth value that reads no site, where each variable in scope has a value. A compound assignment of a
+/// value that fits its operator gives the variable a value of its own type, and so do `++` and `--` on a
+/// number. It does nothing when it runs.
 pub fn parts_are_typed()
     ensures { PartsAreTyped }
 {}
