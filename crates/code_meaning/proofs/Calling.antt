@@ -154,7 +154,7 @@ module _ (holders : List Holder) (methods : List Callee) (graph : List GraphFiel
       (runs q ∙ ap (λ k. Some (Gave v k)) h.does.turns, h.does.of_result, h.does.falls)
   gives n (Halts z) h may =
       let q = stops_wider g.setting gm.code {m = whole} (omega arith) (stops_on g.setting gm.code (bodies.start_leads call right) h.does.stops) in
-      runs q.ends
+      (q.last.turns, runs q.ends)
 
   pub body_gives : CallAgrees (result_type m.result) turns (result_of (meanings calls b.statements begun)) result
   body_gives =

@@ -455,7 +455,7 @@ module _ (c : Context) (calls : Calls) (s : Setting) (code : List Instr) (most :
       let e : suc at ≡ at + 1 = omega arith in
       record { does = (agrees.1, leads_to s code e (one_step s code i is (does ∙ ap (λ g. machine.after_call g under (frame at stack variables left)) agrees.0) agrees.2)) }
   called_gives i (Ends h) gave t at left stack under state agrees is does =
-      record { does = one_stop s code i is (does ∙ ap (λ g. machine.after_call g under (frame at stack variables left)) agrees) }
+      record { does = one_stop s code i is (does ∙ ap (λ g. machine.after_call g under (frame at stack variables left)) agrees.1) }
 
   -- A turn is spent, and then the method is called.
   spends_and_calls : (i : Instr) (x : ℕ → Ended Val) (gave : ℕ → Option Called) (t : ValueType) (at left : ℕ) (stack under : List Val) (state : State) → left ≤ most

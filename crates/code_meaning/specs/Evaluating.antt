@@ -43,7 +43,7 @@ pub record HasSame (c : Context) (here there : List Val) (v : ℕ) : Type 0 wher
 -- a call of a method with this result type, that has so many turns
 abbrev pub CallAgrees : ValueType → ℕ → Ended Val → Option Called → Type 0
 CallAgrees t turns (Gives v left) gave = (gave ≡ Some (Gave v left)) × (values.type_of v ≡ t) × (left ≤ turns)
-CallAgrees t turns (Ends h) gave = gave ≡ Some (Failed (outcome_of h))
+CallAgrees t turns (Ends h) gave = (left : ℕ) × (gave ≡ Some (Failed (outcome_of h) left))
 
 pub record HelperAgrees (m : ℕ) (callee : Callee) (methods : List GraphMethod) (calls : Calls) (flat : machine.Calls) (most : ℕ) : Type 0 where
   pub method : GraphMethod

@@ -98,10 +98,13 @@ pub record StandsAgain (e : Entered) (call : CallState) (fields : List Field) : 
   pub stands : Stands e call
   pub fit : FieldsFit e.program fields
 
-abbrev pub RestsStand : Type 0
-RestsStand =
-    (e : Entered) → IsEntered e → (on : Working) (fields : List Field) → FieldsFit e.program fields → (at turns : ℕ) → turns ≤ turns_at_start → (variables : List Val) (state : State) (call : CallState) (next : List Field)
+abbrev pub RestsOf : Entered → Type 0
+RestsOf e =
+    (on : Working) (fields : List Field) → FieldsFit e.program fields → (at turns : ℕ) → turns ≤ turns_at_start → (variables : List Val) (state : State) (call : CallState) (next : List Field)
     → RestsNow e on fields at variables turns state call next → StandsAgain e call next
+
+abbrev pub RestsStand : Type 0
+RestsStand = (e : Entered) → IsEntered e → RestsOf e
 
 -- ---- steps from where a call stands
 
@@ -117,27 +120,36 @@ pub record BlockRests (e : Entered) (fields : List Field) (field : ℕ) (key : O
   pub is_part : part_of (slice_get fields field) (unwrap_or i 0) ≡ Some part
   pub rests : RestsNow e (block_works field key i) fields at variables turns part call next
 
-abbrev pub BlocksRest : Type 0
-BlocksRest =
-    (e : Entered) → IsEntered e → (fields : List Field) → FieldsFit e.program fields → (field : ℕ) (key : Option Val) (block : Statement) (now : source.Standing) → (s : StandsAtBlock e field key block now)
+abbrev pub BlocksOf : Entered → Type 0
+BlocksOf e =
+    (fields : List Field) → FieldsFit e.program fields → (field : ℕ) (key : Option Val) (block : Statement) (now : source.Standing) → (s : StandsAtBlock e field key block now)
     → (i : Option ℕ) → fits_block key i (width_of field fields) ≡ true
     → (call : CallState) (next : List Field) → Runs (calls_of (e.program).methods) (Then (block ∷ []) ∷ now.frames) (machine_of now (unwrap_or key val.Unit) [] fields (unwrap_or i 0)) call next
     → BlockRests e fields field key i (s.at + 1) s.variables now.turns call next
 
+abbrev pub BlocksRest : Type 0
+BlocksRest = (e : Entered) → IsEntered e → BlocksOf e
+
 abbrev pub visit_works : ℕ → ℕ → Working
 visit_works field i = record { site = Some field; instance = i; key = None; gathered = [] }
 
-abbrev pub VisitsBring : Type 0
-VisitsBring =
-    (e : Entered) → IsEntered e → (fields : List Field) → FieldsFit e.program fields → (field : ℕ) (method : StateMethod) (args : List Val) (parts : List (Option Outcome)) (now : source.Standing) → (s : StandsAtVisits e field method args parts now)
+abbrev pub VisitsOf : Entered → Type 0
+VisitsOf e =
+    (fields : List Field) → FieldsFit e.program fields → (field : ℕ) (method : StateMethod) (args : List Val) (parts : List (Option Outcome)) (now : source.Standing) → (s : StandsAtVisits e field method args parts now)
     → (i : ℕ) (part : State) → part_of (slice_get fields field) i ≡ Some part
     → BringsPart (ground_on e (visit_works field i) fields) (s.at + 1) (suc s.task) s.variables now.turns part (length args) (s.stands).sig.result (called method args part)
+
+abbrev pub VisitsBring : Type 0
+VisitsBring = (e : Entered) → IsEntered e → VisitsOf e
 
 abbrev pub join_works : List Val → Working
 join_works gathered = record { site = None; instance = 0; key = None; gathered = gathered }
 
-abbrev pub JoinsRest : Type 0
-JoinsRest =
-    (e : Entered) → IsEntered e → (fields : List Field) → (field : ℕ) (method : StateMethod) (args : List Val) (parts : List (Option Outcome)) (now : source.Standing) → (s : StandsAtVisits e field method args parts now)
+abbrev pub JoinsOf : Entered → Type 0
+JoinsOf e =
+    (fields : List Field) → (field : ℕ) (method : StateMethod) (args : List Val) (parts : List (Option Outcome)) (now : source.Standing) → (s : StandsAtVisits e field method args parts now)
     → (state : State) (call : CallState) (next : List Field) → Runs (calls_of (e.program).methods) now.frames (machine_of now val.Unit (filter_map value_in parts) fields 0) call next
     → RestsNow e (join_works (filter_map value_in parts)) fields (s.at + 1 + (length args + 2)) s.variables now.turns state call next
+
+abbrev pub JoinsRest : Type 0
+JoinsRest = (e : Entered) → IsEntered e → JoinsOf e

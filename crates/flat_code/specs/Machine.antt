@@ -33,10 +33,10 @@ pub record Frame : Type 0 where
   pub variables : List Val
   pub turns : ℕ
 
--- what a call of a method gave: a value and the turns left, or how the whole call ends
+-- what a call of a method gave: a value, or how the whole call ends, with the turns left
 pub data Called : Type 0 where
   Gave : Val → ℕ → Called
-  Failed : Outcome → Called
+  Failed : Outcome → ℕ → Called
 
 -- the meaning of a call: the number of the method, its arguments, the members of its collection, and the turns
 abbrev pub Calls : Type 0
@@ -203,7 +203,8 @@ abbrev pub after_call : Option Called → List Val → Frame → Option Performe
 after_call None stack f = None
 after_call (Some (Gave v turns)) stack f =
     Some (Goes (record { at = suc f.at; stack = pushed_result v stack; variables = f.variables; turns = turns }))
-after_call (Some (Failed how)) stack f = Some (Ends (Stopped how) f)
+after_call (Some (Failed how turns)) stack f =
+    Some (Ends (Stopped how) (record { at = f.at; stack = f.stack; variables = f.variables; turns = turns }))
 
 abbrev pub call_on : Calls → ℕ → Option (List Val × List Val) → Frame → Option Performed
 call_on calls m None f = None
@@ -334,7 +335,7 @@ no_state = OfCounter (pos 0)
 
 abbrev pub given : Ending → Frame → Option Called
 given (Returned v) f = Some (Gave v f.turns)
-given (Stopped how) f = Some (Failed how)
+given (Stopped how) f = Some (Failed how f.turns)
 given _ f = None
 
 abbrev pub given_by : Option Ran → Option Called

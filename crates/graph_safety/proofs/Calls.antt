@@ -66,7 +66,7 @@ module _ (graph : Graph) (verified : IsVerified graph) where
 
       how : (ending : Ending) (f : Frame) → f.turns ≤ turns → EndsRight graph verified k of calls None None gathered 0 turns [] on ending f → CalledFits of turns (given ending f)
       how (Returned v) f left h = (h.4, left)
-      how (Stopped outcome) f left h = h
+      how (Stopped outcome) f left h = (h, left)
       how (CutTo t) f left h = outside f.at (instr.Cut t) h.1 refl
       how (PartFor join v) f left h = outside f.at (instr.Part join) h.1 refl
 

@@ -1,5 +1,5 @@
 -- Where a run of typed code stands, and what each instruction may leave there.
-use Rattle.std.proofs.Common.{◌≡◌, ◌≢◌, refl, sym, subst, ℕ, ℤ, suc, ◌<◌, ◌≤◌, Bool, true, false, List, [], ◌∷◌, map, length, Option, Some, None, slice_get, slice_set, inl, inr, ◌⊎◌}
+use Rattle.std.proofs.Common.{◌≡◌, ◌≢◌, refl, sym, subst, ℕ, ℤ, suc, ◌<◌, ◌≤◌, arith, Bool, true, false, List, [], ◌∷◌, map, length, Option, Some, None, slice_get, slice_set, inl, inr, ◌⊎◌}
 use Rattle.std.proofs.lemmas.Bool.{false≢true}
 use Rattle.sdg_base.specs.declared.val.Val.{Val}
 use Rattle.sdg_base.specs.declared.val.Val.TheVariants as val
@@ -81,7 +81,7 @@ pub record ArgsFit (of : GraphMethod) (args gathered : List Val) : Type 0 where
 abbrev pub CalledFits : GraphMethod → ℕ → Option Called → Type 0
 CalledFits of turns None = ⊥
 CalledFits of turns (Some (Gave v left)) = (type_of v ≡ result_by of.result) × (left ≤ turns)
-CalledFits of turns (Some (Failed how)) = HasNoValue how
+CalledFits of turns (Some (Failed how left)) = HasNoValue how × (left ≤ turns)
 
 -- with so many turns each call goes right
 abbrev pub CallsFit : Graph → Calls → ℕ → Type 0
@@ -144,8 +144,20 @@ EndFits m i f (Stopped how) = HasNoValue how
 EndFits m i f (CutTo t) = i ≡ instr.Cut t
 EndFits m i f (PartFor join v) = (i ≡ instr.Part join) × (v ≡ part_value f.stack)
 
+-- The frame stands as it was; a call that stops may have spent turns.
+pub record IsLeft (f g : Frame) : Type 0 where
+  pub is : g ≡ frame f.at f.stack f.variables g.turns
+  pub turns : g.turns ≤ f.turns
+
+abbrev pub Leaves : Ending → Frame → Frame → Type 0
+Leaves (Stopped how) f g = IsLeft f g
+Leaves _ f g = g ≡ f
+
+pub stays : (f : Frame) → IsLeft f f
+stays f = record { is = refl; turns = omega arith }
+
 abbrev pub StepFits : Graph → GraphMethod → Option (List ℕ) → List Val → Instr → Frame → Stack → Option Performed → Type 0
 StepFits graph m field gathered i f after None = ⊥
 StepFits graph m field gathered i f after (Some (Goes g)) = StepTo m gathered i f g after
 StepFits graph m field gathered i f after (Some (Accesses k args g)) = AccessFits graph field i k args f g after
-StepFits graph m field gathered i f after (Some (Ends ending g)) = (g ≡ f) × EndFits m i f ending
+StepFits graph m field gathered i f after (Some (Ends ending g)) = Leaves ending f g × EndFits m i f ending

@@ -29,7 +29,7 @@ use Rattle.flat_code.specs.Verified.{Stack, IsMethod, HasMethod, HasAccess, Name
 use Rattle.graph_safety.proofs.Values.{are_same, same_are}
 use Rattle.graph_safety.proofs.Lists.{none_some, some_is, both_true}
 use Rattle.graph_safety.proofs.Stacks.{type_by_value, on_top_is, on_top_by, one_off, two_off, pushing_is, taken_of, two, types_length, range_length, values_have}
-use Rattle.graph_safety.proofs.Frames.{HoldsIn, Holds, value_holds, is_declared, ArgsFit, CalledFits, CallsFit, setting_of, HasKey, Allowed, is_turn, frame, StepFits}
+use Rattle.graph_safety.proofs.Frames.{HoldsIn, Holds, value_holds, is_declared, ArgsFit, CalledFits, CallsFit, setting_of, HasKey, Allowed, is_turn, frame, StepFits, stays}
 use Rattle.graph_safety.proofs.Steps.{Has, Does, goes_on, jumps, finds, stores, load, store, pop, binary, un_op, cast, if_false, turn, new_vector, result_parts, if_parts, members_parts, vector_in, members_in, member_found, long_found, pushed_types}
 
 -- ---- tops of stacks
@@ -118,10 +118,10 @@ module _ (graph : Graph) (m : GraphMethod) (calls : Calls) (field : Option (List
           let declared = is_declared m v (val.Vector longs) typed in
           let within : v < length variables = omega arith in
           stores graph m field gathered (instr.VectorSet v) at v (val.Vector longs) (val.Long x ∷ val.Int i ∷ rest) variables rest turns after (IsFirst []) (λ w q. absurd (none_some w q)) false≢true within (value_holds m gathered v (val.Vector longs) typed) top
-      by_test longs false = (refl, tt)
+      by_test longs false = (stays _, tt)
 
       by_index : (longs : List ℤ) (o : Option ℕ) → StepFits graph m field gathered (instr.VectorSet v) (frame at (val.Long x ∷ val.Int i ∷ rest) variables turns) after (machine.set_at v longs o x rest (frame at (val.Long x ∷ val.Int i ∷ rest) variables turns))
-      by_index longs None = (refl, tt)
+      by_index longs None = (stays _, tt)
       by_index longs (Some j) = by_test (slice_set longs j x) (nat_lt j (length longs))
 
   vector_set : (v : ℕ) (at : ℕ) (stack variables : List Val) (turns : ℕ) (after : Stack) → length variables ≡ length m.vars → Holds m gathered variables v
@@ -152,7 +152,7 @@ module _ (graph : Graph) (m : GraphMethod) (calls : Calls) (field : Option (List
 
   size_of_member : (v : ℕ) (i : ℤ) (at : ℕ) (rest variables : List Val) (turns : ℕ) (after : Stack) (o : Option Val) → Has type.Vector o → type.Int ∷ map type_of rest ≡ after
       → StepFits graph m field gathered (instr.CollectionSize v) (frame at (val.Int i ∷ rest) variables turns) after (machine.with_found o (machine.member_size rest (frame at (val.Int i ∷ rest) variables turns)) (frame at (val.Int i ∷ rest) variables turns))
-  size_of_member v i at rest variables turns after None h top = (refl, tt)
+  size_of_member v i at rest variables turns after None h top = (stays _, tt)
   size_of_member v i at rest variables turns after (Some (val.Vector longs)) h top =
       goes_on graph m field gathered (instr.CollectionSize v) at (val.Int i ∷ rest) variables (val.Int (pos (length longs)) ∷ rest) turns after (IsFirst []) none_some false≢true top
   size_of_member v i at rest variables turns after (Some _) h top = absurd (cc)
@@ -169,7 +169,7 @@ module _ (graph : Graph) (m : GraphMethod) (calls : Calls) (field : Option (List
 
   checked_member : (v : ℕ) (i : ℤ) (at : ℕ) (rest variables : List Val) (turns : ℕ) (after : Stack) (o : Option Val) → type.Int ∷ map type_of rest ≡ after
       → StepFits graph m field gathered (instr.CollectionCheck v) (frame at (val.Int i ∷ rest) variables turns) after (machine.with_found o (machine.member_checked (val.Int i) rest (frame at (val.Int i ∷ rest) variables turns)) (frame at (val.Int i ∷ rest) variables turns))
-  checked_member v i at rest variables turns after None top = (refl, tt)
+  checked_member v i at rest variables turns after None top = (stays _, tt)
   checked_member v i at rest variables turns after (Some x) top =
       goes_on graph m field gathered (instr.CollectionCheck v) at (val.Int i ∷ rest) variables (val.Int i ∷ rest) turns after (IsFirst []) none_some false≢true top
 
@@ -183,7 +183,7 @@ module _ (graph : Graph) (m : GraphMethod) (calls : Calls) (field : Option (List
 
   element_of_member : (v : ℕ) (j i : ℤ) (at : ℕ) (rest variables : List Val) (turns : ℕ) (after : Stack) (o : Option Val) → Has type.Vector o → type.Long ∷ map type_of rest ≡ after
       → StepFits graph m field gathered (instr.CollectionGet v) (frame at (val.Int j ∷ val.Int i ∷ rest) variables turns) after (machine.with_found o (machine.member_element (val.Int j) rest (frame at (val.Int j ∷ val.Int i ∷ rest) variables turns)) (frame at (val.Int j ∷ val.Int i ∷ rest) variables turns))
-  element_of_member v j i at rest variables turns after None h top = (refl, tt)
+  element_of_member v j i at rest variables turns after None h top = (stays _, tt)
   element_of_member v j i at rest variables turns after (Some (val.Vector longs)) h top =
       finds graph m field gathered type.Long (machine.a_long (machine.long_at longs (machine.at_index j))) (instr.CollectionGet v) at (val.Int j ∷ val.Int i ∷ rest) variables rest turns after (IsFirst []) none_some false≢true
       (long_found (machine.long_at longs (machine.at_index j))) top
@@ -208,7 +208,7 @@ module _ (graph : Graph) (m : GraphMethod) (calls : Calls) (field : Option (List
       → CalledFits of turns o → on_top (result_by of.result) (map type_of rest) ≡ after
       → StepFits graph m field gathered i (frame at stack variables turns) after (machine.after_call o rest (frame at stack variables turns))
   called i of at stack variables rest turns after None is_next none no_turn h top = absurd h
-  called i of at stack variables rest turns after (Some (Failed how)) is_next none no_turn h top = (refl, h)
+  called i of at stack variables rest turns after (Some (Failed how left)) is_next none no_turn h top = (record { is = refl; turns = h.1 }, h.0)
   called i of at stack variables rest turns after (Some (Gave v left)) is_next none no_turn h top = record {
     next = is_next;
     typed = pushed_types v rest ∙ ap (λ (t : ValueType). on_top t (map type_of rest)) h.0 ∙ top;

@@ -23,7 +23,7 @@ use Rattle.flat_code.specs.Verified.{IsVerified, IsMethod, HasCode, Stack, Begin
 use Rattle.graph_safety.specs.Safe.{IsStateOf}
 use Rattle.graph_safety.proofs.Lists.{none_some, some_is, is_some_or_not, get_within}
 use Rattle.graph_safety.proofs.States.{OutcomeHas, Answers, call_answers, call_keeps}
-use Rattle.graph_safety.proofs.Frames.{Holds, HasNoValue, CallsFit, setting_of, Allowed, is_turn, IsReturn, frame, StepTo, AccessFits, EndFits, StepFits}
+use Rattle.graph_safety.proofs.Frames.{Holds, HasNoValue, CallsFit, setting_of, Allowed, is_turn, IsReturn, frame, StepTo, AccessFits, EndFits, StepFits, Leaves}
 use Rattle.graph_safety.proofs.Steps.{pushed_types}
 use Rattle.graph_safety.proofs.Instructions.{step}
 use Rattle.graph_safety.proofs.Ways.{Among, reads_needed, next_is, comes, free_more, Suffices, suffices_at_first, suffices_next, suffices_spent, suffices_some}
@@ -167,6 +167,19 @@ module _ (graph : Graph) (verified : IsVerified graph) (n : ℕ) (m : GraphMetho
   ended f i (CutTo t) fits is_code h = (fits, is_code ∙ ap Some h)
   ended f i (PartFor join v) fits is_code h = (fits, is_code ∙ ap Some h.0, h.1)
 
+  -- what an end leaves of the frame of its instruction
+  left : (f g : Frame) (ending : Ending) → Leaves ending f g → (g.variables ≡ f.variables) × (g.turns ≤ f.turns)
+  left f g (Returned v) h = (ap (λ l. l.variables) h, let e = ap (λ (l : Frame). l.turns) h in omega arith)
+  left f g (Stopped how) h = (ap (λ l. l.variables) h.is, h.turns)
+  left f g (CutTo t) h = (ap (λ l. l.variables) h, let e = ap (λ (l : Frame). l.turns) h in omega arith)
+  left f g (PartFor join v) h = (ap (λ l. l.variables) h, let e = ap (λ (l : Frame). l.turns) h in omega arith)
+
+  ended_at : (f g : Frame) (i : Instr) (ending : Ending) → Leaves ending f g → FrameFits f → slice_get m.code f.at ≡ Some i → EndFits m i f ending → EndsRight ending g
+  ended_at f g i (Returned v) same fits is_code h = subst (λ (l : Frame). EndsRight (Returned v) l) (sym same) (ended f i (Returned v) fits is_code h)
+  ended_at f g i (Stopped how) same fits is_code h = h
+  ended_at f g i (CutTo t) same fits is_code h = subst (λ (l : Frame). EndsRight (CutTo t) l) (sym same) (ended f i (CutTo t) fits is_code h)
+  ended_at f g i (PartFor join v) same fits is_code h = subst (λ (l : Frame). EndsRight (PartFor join v) l) (sym same) (ended f i (PartFor join v) fits is_code h)
+
   performed : (next : Running) (f : Frame) (i : Instr) (after : Stack) (state : State) (p : Option Performed) → FrameFits f → slice_get m.code f.at ≡ Some i → IsStateFor graph field state
       → StepFits graph m field gathered i f after p
       → ((to : Frame) (other : State) → class_of other ≡ class_of state → StepTo m gathered i f to after → RunsRight other (next to other))
@@ -178,10 +191,10 @@ module _ (graph : Graph) (verified : IsVerified graph) (n : ℕ) (m : GraphMetho
       (answered (signature (class_of state) k) h.sig args (called k args state).0 (class_is h.name k h.sig state (at h.name h.own) h.is_signature) (call_answers k args state) h.of)
       (call_keeps k args state) more
   performed next f i after state (Some (Ends ending g)) fits is_code at h more = record {
-    carried = λ v k. subst (λ (l : Frame). Holds m gathered l.variables v) (sym h.0) (fits.carried v k);
-    turns = subst (λ (l : Frame). l.turns ≤ most) (sym h.0) fits.turns;
+    carried = λ v k. subst (λ (l : List Val). Holds m gathered l v) (sym (left f g ending h.0).0) (fits.carried v k);
+    turns = let less = (left f g ending h.0).1 in let most = fits.turns in omega arith;
     class = refl;
-    ends = subst (λ (l : Frame). EndsRight ending l) (sym h.0) (ended f i ending fits is_code h.1);
+    ends = ended_at f g i ending h.0 fits is_code h.1;
   }
 
   state_stays : (state other : State) → class_of other ≡ class_of state → IsStateFor graph field state → IsStateFor graph field other

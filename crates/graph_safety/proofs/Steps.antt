@@ -31,7 +31,7 @@ use Rattle.flat_code.specs.Verified.{Stack, types_after, without, on_top, with_r
 use Rattle.graph_safety.proofs.Values.{same_is, is_same, operation_has, unary_has, AnswerHas, ValueHas}
 use Rattle.graph_safety.proofs.Lists.{none_some, some_is, length_set}
 use Rattle.graph_safety.proofs.Stacks.{type_by_value, on_top_is, on_top_by, one_off, two_off, pushing_is}
-use Rattle.graph_safety.proofs.Frames.{AreOf, HoldsIn, Holds, value_holds, is_declared, set_holds, set_keeps, setting_of, is_turn, frame, StepFits}
+use Rattle.graph_safety.proofs.Frames.{AreOf, HoldsIn, Holds, value_holds, is_declared, set_holds, set_keeps, setting_of, is_turn, frame, StepFits, stays}
 
 -- ---- operators give no void
 
@@ -151,13 +151,13 @@ module _ (graph : Graph) (m : GraphMethod) (field : Option (List ℕ)) (gathered
   answers t None i at stack variables next turns after is_next none no_turn has typed = has
   answers t (Some (Ok v)) i at stack variables next turns after is_next none no_turn has typed =
       goes_on i at stack variables (v ∷ next) turns after is_next none no_turn (ap (λ u. u ∷ map type_of next) has ∙ typed)
-  answers t (Some (Err e)) i at stack variables next turns after is_next none no_turn has typed = (refl, tt)
+  answers t (Some (Err e)) i at stack variables next turns after is_next none no_turn has typed = (stays _, tt)
 
   pub finds : (t : ValueType) (o : Option Val) (i : Instr) (at : ℕ) (stack variables next : List Val) (turns : ℕ) (after : Stack)
       → IsIn (suc at) (next_in_task at i) → ((v : ℕ) → writes i ≡ Some v → ⊥) → (is_turn i ≡ true → ⊥)
       → Has t o → t ∷ map type_of next ≡ after
       → StepFits graph m field gathered i (frame at stack variables turns) after (machine.found o next (frame at stack variables turns))
-  finds t None i at stack variables next turns after is_next none no_turn has typed = (refl, tt)
+  finds t None i at stack variables next turns after is_next none no_turn has typed = (stays _, tt)
   finds t (Some v) i at stack variables next turns after is_next none no_turn has typed =
       goes_on i at stack variables (v ∷ next) turns after is_next none no_turn (ap (λ u. u ∷ map type_of next) has ∙ typed)
 
@@ -321,7 +321,7 @@ module _ (graph : Graph) (m : GraphMethod) (calls : Calls) (field : Option (List
   if_false to at _ variables turns after e = absurd (none_some after e)
 
   pub turn : (at : ℕ) (stack variables : List Val) (turns : ℕ) (after : Stack) → Some (map type_of stack) ≡ Some after → Does instr.Turn at stack variables turns after
-  turn at stack variables zero after e = (refl, tt)
+  turn at stack variables zero after e = (stays _, tt)
   turn at stack variables (suc left) after e = record {
     next = IsFirst [];
     typed = some_is (map type_of stack) after e;
@@ -338,7 +338,7 @@ module _ (graph : Graph) (m : GraphMethod) (calls : Calls) (field : Option (List
     where
       by : (b : Bool) → StepFits graph m field gathered instr.NewVector (frame at (val.Int (pos n) ∷ rest) variables turns) after
           (cond b (machine.ends_at_limit (frame at (val.Int (pos n) ∷ rest) variables turns)) (machine.goes (val.Vector (replicate n (pos 0)) ∷ rest) (frame at (val.Int (pos n) ∷ rest) variables turns)))
-      by true = (refl, tt)
+      by true = (stays _, tt)
       by false = goes_on graph m field gathered instr.NewVector at (val.Int (pos n) ∷ rest) variables (val.Vector (replicate n (pos 0)) ∷ rest) turns after (IsFirst []) none_some false≢true (some_is (type.Vector ∷ map type_of rest) after e)
-  new_vector at (val.Int (negsuc n) ∷ rest) variables turns after e = (refl, tt)
+  new_vector at (val.Int (negsuc n) ∷ rest) variables turns after e = (stays _, tt)
   new_vector at _ variables turns after e = absurd (none_some after e)

@@ -69,7 +69,7 @@ calm-with_member members val.Unit g f calm = refl
 calm-after_call : (o : Option Called) (stack : List Val) (f : Frame) → is_calm (after_call o stack f) ≡ true
 calm-after_call None stack f = refl
 calm-after_call (Some (Gave v turns)) stack f = refl
-calm-after_call (Some (Failed how)) stack f = refl
+calm-after_call (Some (Failed how turns)) stack f = refl
 
 calm-call_on : (calls : Calls) (m : ℕ) (taken : Option (List Val × List Val)) (f : Frame) → is_calm (call_on calls m taken f) ≡ true
 calm-call_on calls m None f = refl

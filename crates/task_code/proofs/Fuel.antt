@@ -110,13 +110,13 @@ on_from n s code f f' state state' next some = record {
   fewer = least-falls (λ k. has_ran (run_within k s code f state)) (λ k. has_ran (run_within k s code f' state')) n (λ k. ap has_ran (next k)) (ap has_ran (none_within s code f state)) (some_has_ran (run_within n s code f state) some);
 }
 
-seen_goes : (p : Option Performed) (f : Frame) → seen p ≡ Some (Goes f) → p ≡ Some (Goes f)
+pub seen_goes : (p : Option Performed) (f : Frame) → seen p ≡ Some (Goes f) → p ≡ Some (Goes f)
 seen_goes None f e = cc
 seen_goes (Some (Goes g)) f e = e
 seen_goes (Some (Accesses m args g)) f e = cc
 seen_goes (Some (Ends ending g)) f e = cc
 
-seen_accesses : (p : Option Performed) (m : Method) (args : List Val) (f : Frame) → seen p ≡ Some (Accesses m args f) → p ≡ Some (Accesses m args f)
+pub seen_accesses : (p : Option Performed) (m : Method) (args : List Val) (f : Frame) → seen p ≡ Some (Accesses m args f) → p ≡ Some (Accesses m args f)
 seen_accesses None m args f e = cc
 seen_accesses (Some (Goes g)) m args f e = cc
 seen_accesses (Some (Accesses n others g)) m args f e = e

@@ -9,7 +9,9 @@ use Rattle.sdg_base.specs.declared.val.Outcome.{Outcome}
 use Rattle.sdg_base.specs.declared.val.Val.{Val}
 use Rattle.sdg_base.specs.declared.item.Item.TheVariants as item
 use Rattle.state_classes.specs.States.{State}
+use Rattle.flat_code.specs.declared.graph.Graph.{Graph}
 use Rattle.flat_code.specs.Items.{Sender, Gathered, AllValues, FirstOther, Wait, done, gathered_of, instance_of, joined, joined_from, joined_with, run_from, with_part}
+use Rattle.task_code.specs.Begun.{begun_join, begun_join_from}
 use Rattle.task_code.specs.Gathering.{after, gathered_by, with_others}
 
 nothing_more : (o : Option Outcome) (values : List Val) → with_others o values (AllValues []) ≡ gathered_by o values
@@ -75,4 +77,10 @@ waits s width p others state few =
 pub starts : (s : Sender) (width : ℕ) (p : Item) (others : List Item) (state : State) → width ≤ suc (length others) → joined s width (with_part p others) state ≡ joined_from s (with_part p others) state
 starts s width p others state all =
     ap (λ (b : Bool). if b then Some (record { output = Wait; state = state }) else joined_from s (with_part p others) state)
+    (above (length (with_part p others)) width (omega (arith, with_part-length p others)))
+
+-- What the join runs is then what all parts run.
+pub runs_joined : (graph : Graph) (width : ℕ) (p : Item) (others : List Item) → width ≤ suc (length others) → begun_join graph width (with_part p others) ≡ begun_join_from graph (with_part p others)
+runs_joined graph width p others all =
+    ap (λ (b : Bool). if b then None else begun_join_from graph (with_part p others))
     (above (length (with_part p others)) width (omega (arith, with_part-length p others)))

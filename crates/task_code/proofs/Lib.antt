@@ -8,3 +8,4 @@ pub mod Calling
 pub mod Outputs
 pub mod Gathered
 pub mod Typed
+pub mod Partway

@@ -3,3 +3,5 @@ pub mod Seen
 pub mod Given
 pub mod Gathering
 pub mod Taken
+pub mod Partway
+pub mod Begun

@@ -76,7 +76,7 @@ Does e i old new to = seen (machine.perform_on (setting_of e) i old.stack (frame
 
 abbrev pub called_of : Called → machine.Called
 called_of (called.Gave v turns) = machine.Gave v turns
-called_of (called.Failed how) = machine.Failed how
+called_of (called.Failed how turns) = machine.Failed how turns
 
 -- what an instruction did, once the methods that it calls have run: the frame stands at what comes next
 abbrev pub moves : Move → Frame → Option machine.Performed

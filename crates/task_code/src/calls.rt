@@ -36,7 +36,10 @@ fn after_call(called: Called, at: usize, frame: &mut Frame) -> Result<Move, Allo
             frame.at = at + 1;
             Ok(Move::Go)
         }
-        Called::Failed(how) => Ok(Move::End(Ending::Stopped(how))),
+        Called::Failed(how, turns) => {
+            frame.turns = turns;
+            Ok(Move::End(Ending::Stopped(how)))
+        }
     }
 }
 
@@ -136,7 +139,7 @@ impl Engine<'_> {
         };
         match self.run_method(method.code.as_slice(), &mut frame)? {
             Ending::Returned(value) => Ok(Called::Gave(value, frame.turns)),
-            Ending::Stopped(how) => Ok(Called::Failed(how)),
+            Ending::Stopped(how) => Ok(Called::Failed(how, frame.turns)),
             Ending::CutTo(_) | Ending::PartFor(..) => unreachable!(),
         }
     }

@@ -1,6 +1,8 @@
 //! Runs of code on a state.
 
-ghost use Rattle.std.specs.Prelude.{◌≡◌, IfOk, IsSome};
+ghost use Rattle.std.specs.Prelude.{◌≡◌, IfOk, IsSome, Some};
+ghost use Rattle.task_code.specs.Begun.{begun_by};
+ghost use Rattle.task_code.specs.Partway.{IsLeftBy};
 ghost use Rattle.task_code.specs.Seen.{ends_so, running, seen_ran};
 
 use crate::calls::push_result;
@@ -12,7 +14,8 @@ use sdg_base::Outcome;
 use state_classes::Access;
 use std::alloc::AllocError;
 
-/// Runs code from a frame on, until it ends. Where memory ends, some accesses may have been made.
+/// Runs code from a frame on, until it ends. Where memory ends, the first of its accesses may have
+/// been made.
 pub fn run<A: Access>(
     engine: &Engine,
     code: &[Instr],
@@ -20,7 +23,8 @@ pub fn run<A: Access>(
     state: &mut A,
 ) -> Result<Ending, AllocError>
     requires { IsSome (running engine.now code.now frame.old (A.held state.old)) }
-    ensures { IfOk result (λ ending. seen_ran (running engine.now code.now frame.old (A.held state.old)) ≡ ends_so ending frame.new (A.held state.new)) }
+    ensures ends { IfOk result (λ ending. seen_ran (running engine.now code.now frame.old (A.held state.old)) ≡ ends_so ending frame.new (A.held state.new)) }
+    ensures left { IsLeftBy (Some (begun_by engine.now code.now frame.old)) (A.held state.old) (A.held state.new) }
 {
     while frame.at < code.len() {
         match engine.step(&code[frame.at], frame)? {

@@ -31,8 +31,8 @@ pub enum Move {
     End(Ending),
 }
 
-/// What a call of a method gave: a value and the turns that are left, or how the whole call ends.
+/// What a call of a method gave: a value, or how the whole call ends, with the turns that are left.
 pub enum Called {
     Gave(Val, u32),
-    Failed(Outcome),
+    Failed(Outcome, u32),
 }

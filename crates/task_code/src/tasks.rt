@@ -1,12 +1,14 @@
 //! Tasks: what an item gives at a port.
 
-ghost use Rattle.std.specs.Prelude.{◌≡◌, IfOk, IsSome, IsTrue, OnOk, Some, length, slice_get, ◌≤◌};
+ghost use Rattle.std.specs.Prelude.{◌≡◌, IfOk, IsSome, IsTrue, Some, length, slice_get, ◌≤◌};
 ghost use Rattle.flat_code.specs.Items.{after_run, joined, joined_from, run_from, runs, started, with_part};
 ghost use Rattle.flat_code.specs.Fits.{fits};
 ghost use Rattle.flat_code.specs.Verified.{IsVerified};
 ghost use Rattle.graph_safety.specs.Safe.{AreWidths, call_of, ArePartsBeside, IsStateAt, OutputFits};
 ghost use Rattle.state_classes.specs.States.{class_of};
+ghost use Rattle.task_code.specs.Begun.{begun, begun_by, begun_from, begun_join, begun_join_from, begun_start, task_begun};
 ghost use Rattle.task_code.specs.Given.{gives, output_of, sender_of, task_run, visit_at, visited_of};
+ghost use Rattle.task_code.specs.Partway.{IsLeftBy};
 ghost use Rattle.task_code.specs.Seen.{running};
 
 use crate::engine::Engine;
@@ -36,7 +38,8 @@ impl Sender<'_> {
         state: &mut A,
     ) -> Result<Out, AllocError>
         requires { IsSome (after_run (sender_of self.now) (running engine.now code.now frame (A.held state.old))) }
-        ensures { IfOk result (λ out. after_run (sender_of self.now) (running engine.now code.now frame (A.held state.old)) ≡ gives out (A.held state.new)) }
+        ensures gives { IfOk result (λ out. after_run (sender_of self.now) (running engine.now code.now frame (A.held state.old)) ≡ gives out (A.held state.new)) }
+        ensures left { IsLeftBy (Some (begun_by engine.now code.now frame)) (A.held state.old) (A.held state.new) }
     {
         let mut frame = frame;
         let ending = run(engine, code, &mut frame, state)?;
@@ -51,7 +54,8 @@ impl Sender<'_> {
         state: &mut A,
     ) -> Result<Out, AllocError>
         requires { IsSome (started (sender_of self.now) (slice_get self.now.graph.now.methods method) args.now TURNS_AT_START (A.held state.old)) }
-        ensures { IfOk result (λ out. started (sender_of self.now) (slice_get self.now.graph.now.methods method) args.now TURNS_AT_START (A.held state.old) ≡ gives out (A.held state.new)) }
+        ensures gives { IfOk result (λ out. started (sender_of self.now) (slice_get self.now.graph.now.methods method) args.now TURNS_AT_START (A.held state.old) ≡ gives out (A.held state.new)) }
+        ensures left { IsLeftBy (begun_start self.now.graph.now (slice_get self.now.graph.now.methods method) args.now) (A.held state.old) (A.held state.new) }
     {
         match at(self.graph.methods.as_slice(), usize::from(method)) {
             Some(method) => {
@@ -87,7 +91,8 @@ impl Sender<'_> {
         state: &mut A,
     ) -> Result<Out, AllocError>
         requires { IsSome (after_run (sender_of self.now) (task_run engine.now method.now task.now turns values.now (A.held state.old))) }
-        ensures { IfOk result (λ out. after_run (sender_of self.now) (task_run engine.now method.now task.now turns values.now (A.held state.old)) ≡ gives out (A.held state.new)) }
+        ensures gives { IfOk result (λ out. after_run (sender_of self.now) (task_run engine.now method.now task.now turns values.now (A.held state.old)) ≡ gives out (A.held state.new)) }
+        ensures left { IsLeftBy (Some (task_begun engine.now method.now task.now turns values.now)) (A.held state.old) (A.held state.new) }
     {
         let frame = Frame {
             at: task.at as usize,
@@ -109,7 +114,8 @@ impl Sender<'_> {
         state: &mut A,
     ) -> Result<Out, AllocError>
         requires { IsSome (run_from (sender_of self.now) (slice_get self.now.graph.now.tasks task) key gathered.now turns values.now (A.held state.old)) }
-        ensures { IfOk result (λ out. run_from (sender_of self.now) (slice_get self.now.graph.now.tasks task) key gathered.now turns values.now (A.held state.old) ≡ gives out (A.held state.new)) }
+        ensures gives { IfOk result (λ out. run_from (sender_of self.now) (slice_get self.now.graph.now.tasks task) key gathered.now turns values.now (A.held state.old) ≡ gives out (A.held state.new)) }
+        ensures left { IsLeftBy (begun_from self.now.graph.now (slice_get self.now.graph.now.tasks task) key gathered.now turns values.now) (A.held state.old) (A.held state.new) }
     {
         match at(self.graph.tasks.as_slice(), task as usize) {
             Some(task) => match at(self.graph.methods.as_slice(), usize::from(task.method)) {
@@ -139,7 +145,8 @@ impl Sender<'_> {
         state: &mut A,
     ) -> Result<Out, AllocError>
         requires { IsSome (joined (sender_of self.now) width (with_part part.now others.now) (A.held state.old)) }
-        ensures { IfOk result (λ out. joined (sender_of self.now) width (with_part part.now others.now) (A.held state.old) ≡ gives out (A.held state.new)) }
+        ensures gives { IfOk result (λ out. joined (sender_of self.now) width (with_part part.now others.now) (A.held state.old) ≡ gives out (A.held state.new)) }
+        ensures left { IsLeftBy (begun_join self.now.graph.now width (with_part part.now others.now)) (A.held state.old) (A.held state.new) }
     {
         if others.len().saturating_add(1) < usize::from(width) {
             return Ok(Out::Wait);
@@ -155,7 +162,8 @@ impl Sender<'_> {
         state: &mut A,
     ) -> Result<Out, AllocError>
         requires { IsSome (joined_from (sender_of self.now) (with_part part.now others.now) (A.held state.old)) }
-        ensures { IfOk result (λ out. joined_from (sender_of self.now) (with_part part.now others.now) (A.held state.old) ≡ gives out (A.held state.new)) }
+        ensures gives { IfOk result (λ out. joined_from (sender_of self.now) (with_part part.now others.now) (A.held state.old) ≡ gives out (A.held state.new)) }
+        ensures left { IsLeftBy (begun_join_from self.now.graph.now (with_part part.now others.now)) (A.held state.old) (A.held state.new) }
     {
         match lowest(part, others) {
             Item::Part {
@@ -210,7 +218,7 @@ fn visit_of(port: Port, item: &Item) -> Option<Visited>
 }
 
 /// What an item gives that gives something.
-#[tactic(auto, unfolding(flat_code::specs::Items::runs))]
+#[tactic(auto, unfolding(flat_code::specs::Items::runs, crate::specs::Begun::begun))]
 fn given<A: Access>(
     alloc: Global,
     graph: &Graph,
@@ -224,7 +232,8 @@ fn given<A: Access>(
     requires few_fields { length graph.now.fields ≤ 64 }
     requires widths { AreWidths graph.now widths.now }
     requires right { IsSome (runs graph.now port item.now parts.now (A.held state.old) pick widths.now) }
-    ensures { IfOk result (λ out. runs graph.now port item.now parts.now (A.held state.old) pick widths.now ≡ gives out (A.held state.new)) }
+    ensures gives { IfOk result (λ out. runs graph.now port item.now parts.now (A.held state.old) pick widths.now ≡ gives out (A.held state.new)) }
+    ensures left { IsLeftBy (begun graph.now port item.now parts.now) (A.held state.old) (A.held state.new) }
 {
     let sender = Sender {
         alloc,
@@ -267,7 +276,11 @@ fn given<A: Access>(
 /// Runs an item at a port on the state of the port's cell, with the parts of its call that were
 /// gathered so far. An instance is picked by `pick`, and `widths` has how many slots or instances each
 /// field has. On a verified graph an item that fits never goes wrong, and what it gives fits where it
-/// goes. Where memory ends, some accesses may have been made.
+/// goes. Whatever it answers, the state is as the first accesses of the item's run left it, and of its
+/// class.
+///
+/// # Errors
+/// For want of memory. Some, none or all of the run's accesses have then been made.
 pub fn run_task<A: Access>(
     alloc: Global,
     graph: &Graph,
@@ -285,7 +298,8 @@ pub fn run_task<A: Access>(
     requires state { IsStateAt graph.now port (A.held state.old) }
     ensures runs { IfOk result (λ out. runs graph.now port item.now parts.now (A.held state.old) pick widths.now ≡ gives out (A.held state.new)) }
     ensures output { IfOk result (λ out. OutputFits graph.now widths.now port item.now parts.now (output_of out)) }
-    ensures class { OnOk result (class_of (A.held state.new) ≡ class_of (A.held state.old)) }
+    ensures left { IsLeftBy (begun graph.now port item.now parts.now) (A.held state.old) (A.held state.new) }
+    ensures class { class_of (A.held state.new) ≡ class_of (A.held state.old) }
 {
     let out = given(alloc, graph, port, item, parts, state, pick, widths)?;
     Ok(out)

@@ -9,13 +9,13 @@ pub ended-requires : goal.ended-requires
 ended-requires g c = (
   g.A.Access.held c.run.new.state,
   can_end (sender_of c.args.self.now) (running c.args.engine.now c.args.code.now c.args.frame (g.A.Access.held c.args.state.now)) (ending_of c.in_ok-ending.ending) (frame_of c.run.new.frame) (g.A.Access.held c.run.new.state)
-      c.in_ok-ending.ensures c.requires,
+      c.in_ok-ending.ensures.ends c.requires,
 )
 
-pub returns : goal.returns
-returns g c =
+pub returns-clause-gives : goal.returns-clause-gives
+returns-clause-gives g c =
     IfOk-weaker c.ended.result _ _
     (λ out given.
-    ran_gives (sender_of c.args.self.now) (running c.args.engine.now c.args.code.now c.args.frame (g.A.Access.held c.args.state.now)) (ending_of c.in_ok-ending.ending) (frame_of c.run.new.frame) (g.A.Access.held c.run.new.state) c.in_ok-ending.ensures
+    ran_gives (sender_of c.args.self.now) (running c.args.engine.now c.args.code.now c.args.frame (g.A.Access.held c.args.state.now)) (ending_of c.in_ok-ending.ending) (frame_of c.run.new.frame) (g.A.Access.held c.run.new.state) c.in_ok-ending.ensures.ends
     ∙ given (g.A.Access.held c.run.new.state))
     c.ended.ensures
