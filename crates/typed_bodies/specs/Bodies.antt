@@ -18,7 +18,7 @@ use Rattle.access_blocks.specs.declared.scope.Scope.{Scope}
 use Rattle.access_blocks.specs.Cursors.{Cursor, Read}
 use Rattle.access_blocks.specs.ResolvingStatements.{list_of, item_of}
 use Rattle.access_blocks.specs.Programs as programs
-use Rattle.access_blocks.specs.Programs.{methods_in, scope_of, in_method, body_of, program_of}
+use Rattle.access_blocks.specs.Programs.{scope_of, in_method, body_of, program_of}
 use Rattle.body_code.specs.declared.callee.Callee.{Callee}
 use Rattle.body_code.specs.ClassCode.{callees_of, result_type}
 use Rattle.body_code.specs.Checking.{surroundings, at_start}
@@ -65,6 +65,3 @@ pub record HasTypedBare (class : Class) (n : ℕ) (m : Method) : Type 0 where
   pub before : Cursor
   pub is : slice_get (resolved_of class).methods n ≡ Some (body_of (scope_of class) m before).it
   pub bare : IsTypedBare (resolved_of class).fields (callees_of class (resolved_of class)) m (bare_of (scope_of class) m before)
-
-abbrev pub BodiesAreTyped : Type 0
-BodiesAreTyped = (class : Class) → BreaksNoRule class → (n : ℕ) (m : Method) → slice_get (methods_in class.members) n ≡ Some m → HasTypedBare class n m

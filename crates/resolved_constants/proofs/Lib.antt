@@ -1,0 +1,14 @@
+pub mod Promoted
+pub mod Values
+pub mod Types
+pub mod Operands
+pub mod Forms
+pub mod OneOperand
+pub mod Choices
+pub mod NoConstants
+pub mod Calls
+pub mod Given
+pub mod Judging
+pub mod Walks
+pub mod Kept
+pub mod Tests
