@@ -1,0 +1,16 @@
+pub mod Calm
+pub mod Passing
+pub mod Grown
+pub mod Leaving
+pub mod Forms
+pub mod Resolved
+pub mod Meaning
+pub mod Tests
+pub mod ReturnedCalls
+pub mod Returns
+pub mod Headers
+pub mod Statements
+pub mod Branches
+pub mod Items
+pub mod Methods
+pub mod Bodies

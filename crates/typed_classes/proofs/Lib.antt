@@ -1,0 +1,5 @@
+pub mod Bodies
+pub mod Whole
+pub mod Unmarking
+pub mod Placing
+pub mod Headers
