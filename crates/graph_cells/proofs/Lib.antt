@@ -1,0 +1,7 @@
+mod Buffers
+mod Calls
+mod Gathering
+mod Inserting
+mod Listed
+mod Processed
+mod Shown
