@@ -1,5 +1,5 @@
 -- What a `return` is resolved to stops, where no rule has a finding in it.
-use Rattle.std.proofs.Common.{◌≡◌, ℕ, Bool, true, false, List, [], drop, slice_get, is_some, unwrap_or, Option, Some, None, refl, sym, ap, subst, ◌∙◌}
+use Rattle.std.proofs.Common.{◌≡◌, ℕ, Bool, false, List, [], drop, slice_get, is_some, unwrap_or, Option, Some, None, refl, sym, ap, subst, ◌∙◌}
 use Rattle.java_tree.specs.declared.tree.CallForm.{CallForm}
 use Rattle.java_tree.specs.declared.tree.CallForm.TheOpen.{Expr-F, Value-F}
 use Rattle.java_tree.specs.declared.tree.CallForm.TheOpen as e
@@ -14,7 +14,6 @@ use Rattle.java_types.specs.Fits.{is_void}
 use Rattle.java_types.specs.Statements.{returned_value, returned}
 use Rattle.java_types.specs.Walks.{past, past_if, noted}
 use Rattle.annotations.specs.declared.position.Position.TheVariants.{Whole}
-use Rattle.annotations.specs.declared.walk.Env.{Env as MarkingEnv}
 use Rattle.annotations.specs.declared.walk.Walk.{Walk as MarkingWalk}
 use Rattle.annotations.specs.Expressions as marking
 use Rattle.annotations.specs.Statements as marking_statements
@@ -34,8 +33,8 @@ use Rattle.typed_statements.specs.Goes.{Goes}
 use Rattle.typed_statements.specs.Leaves.{LeavesGo}
 use Rattle.typed_statements.specs.Points.{Setting, IsSoundSomewhere, point, place_at}
 use Rattle.typed_statements.proofs.Fitting.{agrees_at}
-use Rattle.typed_statements.proofs.Going.{Unmoved, unmoved}
-use Rattle.typed_statements.proofs.Steps.{past_unmoved, unmerged_merges_none}
+use Rattle.typed_statements.proofs.Going.{Unmoved}
+use Rattle.typed_statements.proofs.Steps.{past_unmoved, unmerged_merges_none, past_if_unmoved}
 use Rattle.ending_bodies.proofs.Meaning.{Fact, StandsAt, stands_inside, goes_with, stands_before, fits_there}
 use Rattle.ending_bodies.proofs.Resolved.{Stops, return_is, returned_stops}
 use Rattle.ending_bodies.proofs.ReturnedCalls.{IsReturned, IsValueCall, call_returned, value_follows}
@@ -49,10 +48,6 @@ invoked_stops is_global wanted found (invoked.Accesses a) local =
     subst (λ (g : Bool). Stops (given_to g target.Returned wanted found (invoked.Accesses a))) (sym local) (returned_stops wanted found (invoked.Accesses a) tt)
 
 -- ---- where it stands
-
-past_if_unmoved : (env : MarkingEnv) (test : Bool) (n : ℕ) (u : MarkingWalk) → Unmoved u (marks.past_if env test n u)
-past_if_unmoved env true n u = past_unmoved env n u
-past_if_unmoved env false n u = unmoved u
 
 -- ---- a value that is a call
 

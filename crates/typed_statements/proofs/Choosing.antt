@@ -19,10 +19,9 @@ use Rattle.typed_statements.specs.Points.{Setting, IsSoundSomewhere}
 use Rattle.typed_statements.specs.Goes.{Meaning, Goes}
 use Rattle.typed_statements.specs.Leaves.{Stated, LeavesGo}
 use Rattle.typed_statements.proofs.Going.{still}
-use Rattle.typed_statements.proofs.InTurn.{before, in_turn, made, made_there}
+use Rattle.typed_statements.proofs.InTurn.{before, in_turn, made, made_there, stays}
 use Rattle.typed_statements.proofs.Steps.{past_still, past_unmoved, unmerged_merges_none}
 use Rattle.typed_statements.proofs.StatedStatements.{stated_stable}
-use Rattle.typed_statements.proofs.Jumps.{stays}
 use Rattle.typed_statements.proofs.Branching.{Branches, no_second, one_second, if_stated}
 
 -- ---- the branches

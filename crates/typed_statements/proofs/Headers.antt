@@ -29,8 +29,8 @@ use Rattle.typed_statements.specs.Points.{Setting, Point, place_at, IsPoint, IsS
 use Rattle.typed_statements.specs.Checks.{Typed, AllTyped, all_assigned}
 use Rattle.typed_statements.specs.Goes.{Meaning, Goes}
 use Rattle.typed_statements.specs.Leaves.{LeavesGo}
-use Rattle.typed_statements.proofs.Going.{same, still}
-use Rattle.typed_statements.proofs.InTurn.{Stable, Way, before, behind, unread, made, made_there}
+use Rattle.typed_statements.proofs.Going.{still}
+use Rattle.typed_statements.proofs.InTurn.{Stable, before, behind, unread, made, made_there, stays}
 use Rattle.typed_statements.proofs.Standings.{checks_stable}
 use Rattle.typed_statements.proofs.Lists.{none_typed, one_more, list_goes}
 use Rattle.typed_statements.proofs.Steps.{past_still, past_unmoved, unmerged_merges_none}
@@ -108,20 +108,10 @@ test_awaits_none env (Some x) u none = (expression_keeps env x Inside None u).no
 
 -- ---- the parts
 
-way_here : (k : Setting) (at : Point) → IsPoint k at → Way k at at
-way_here k at is = record {
-  begins = is;
-  ends = is;
-  known = same at.types.variables;
-  variables = same at.cursor.variables;
-  locals = same at.cursor.locals;
-  marks = same at.marks.locals;
-}
-
 -- the empty statement where no update is written
 nothing_updates : (k : Setting) (a : Around) (at : Point) → IsPoint k at → Updates k a at at (nothing ∷ [])
 nothing_updates k a at is none = record {
-  typed = one_more k a at at at nothing [] (block_typed k a at at at [] none none (closes_here (way_here k at is) refl) (none_typed k a at is)) (none_typed k a at is);
+  typed = one_more k a at at at nothing [] (block_typed k a at at at [] none none (closes_here (stays k at is) refl) (none_typed k a at is)) (none_typed k a at is);
   same_known = refl;
   none_awaited = none;
 }

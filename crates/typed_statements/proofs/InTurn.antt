@@ -103,6 +103,17 @@ module _ {A : Type 0} (k : Setting) {Means : Meaning A} {reading : Cursor → Re
         record { added = brings_behind p.added s; behind = λ c types names is ts ns all. behind_behind k st qx s m (p.behind c types names is ts ns all) };
   }
 
+-- no step
+pub stays : (k : Setting) (at : Point) → IsPoint k at → Way k at at
+stays k at is = record {
+  begins = is;
+  ends = is;
+  known = same at.types.variables;
+  variables = same at.cursor.variables;
+  locals = same at.cursor.locals;
+  marks = same at.marks.locals;
+}
+
 -- nothing is read, where neither walk has found anything
 pub unread_there : {A : Type 0} (k : Setting) {Means : Meaning A} (w : Walk) (u : MarkingWalk) (a : A)
     → ((c : Cursor) → w.findings ≡ [] → u.findings ≡ [] → IsPoint k (point w u c) → Means (point w u c) (point w u c) a) → Goes k w w u u (λ c. read a c) Means

@@ -20,10 +20,7 @@ use Rattle.typed_statements.proofs.Going.{Still, Unmoved, unmoved}
 use Rattle.typed_statements.proofs.Steps.{some_left, noted_still, not_noted, unmerged_merges_none}
 use Rattle.typed_statements.proofs.Declaring.{still_both}
 use Rattle.typed_statements.proofs.NoGlobal.{whole_no_global}
-
-not_false : (b : Bool) → not b ≡ false → b ≡ true
-not_false true e = refl
-not_false false e = absurd (cc)
+use Rattle.typed_statements.proofs.Naming.{not_false}
 
 and_first : (b c : Bool) → (b && c) ≡ true → b ≡ true
 and_first true c e = refl

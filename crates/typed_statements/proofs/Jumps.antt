@@ -14,24 +14,13 @@ use Rattle.typed_statements.specs.Points.{Setting, Point, point, IsPoint}
 use Rattle.typed_statements.specs.Checks.{Typed}
 use Rattle.typed_statements.specs.Goes.{Goes}
 use Rattle.typed_statements.specs.Leaves.{Stated}
-use Rattle.typed_statements.proofs.Going.{same, still}
-use Rattle.typed_statements.proofs.InTurn.{Way, before, behind, unread_there}
+use Rattle.typed_statements.proofs.Going.{still}
+use Rattle.typed_statements.proofs.InTurn.{before, behind, unread_there, stays}
 use Rattle.typed_statements.proofs.Lists.{none_typed}
 use Rattle.typed_statements.proofs.Steps.{past_still, past_unmoved, noted_still, not_noted, unmerged_merges_none}
 use Rattle.typed_statements.proofs.Braces.{block_typed}
 use Rattle.typed_statements.proofs.Jumped.{break_typed, continue_typed}
 use Rattle.typed_statements.proofs.StatedStatements.{stated_stable, closes_here}
-
--- no step
-pub stays : (k : Setting) (at : Point) → IsPoint k at → Way k at at
-stays k at is = record {
-  begins = is;
-  ends = is;
-  known = same at.types.variables;
-  variables = same at.cursor.variables;
-  locals = same at.cursor.locals;
-  marks = same at.marks.locals;
-}
 
 nothing_stated : (k : Setting) (a : Around) (at : Point) → IsPoint k at → at.marks.awaited ≡ None → Stated k a at at nothing
 nothing_stated k a at is none = record {

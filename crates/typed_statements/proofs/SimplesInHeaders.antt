@@ -19,10 +19,10 @@ use Rattle.typed_statements.specs.Points.{Setting, Point, IsPoint, IsSoundSomewh
 use Rattle.typed_statements.specs.Checks.{AllTyped}
 use Rattle.typed_statements.specs.Goes.{Goes}
 use Rattle.typed_statements.specs.Leaves.{Stated, LeavesGo}
-use Rattle.typed_statements.proofs.Going.{Still, Unmoved, still, unmoved}
+use Rattle.typed_statements.proofs.Going.{Still, Unmoved, still}
 use Rattle.typed_statements.proofs.InTurn.{Way, before, made_there}
 use Rattle.typed_statements.proofs.Lists.{none_typed, one_more, list_means}
-use Rattle.typed_statements.proofs.Steps.{past_still, past_unmoved}
+use Rattle.typed_statements.proofs.Steps.{past_still, past_unmoved, past_if_unmoved}
 use Rattle.typed_statements.proofs.Keeping.{Keeps, kept, keeps_on, keeps_past, keeps_past_if, keeps_named, keeps_unmerged}
 use Rattle.typed_statements.proofs.ExpressionsKeep.{value_keeps, call_keeps}
 use Rattle.typed_statements.proofs.Gathering.{GathersNone, AllGatherNone}
@@ -74,10 +74,6 @@ module _ (env : MarkingEnv) where
 past_if_still : (env : Env) (test : Bool) (n : ℕ) (w : Walk) → Still w (past_if env test n w)
 past_if_still env true n w = past_still env n w
 past_if_still env false n w = still w
-
-past_if_unmoved : (env : MarkingEnv) (test : Bool) (n : ℕ) (u : MarkingWalk) → Unmoved u (marks.past_if env test n u)
-past_if_unmoved env true n u = past_unmoved env n u
-past_if_unmoved env false n u = unmoved u
 
 -- behind a list of them there is one token more where it is empty
 pub simples_still : (env : Env) (xs : List Simple) (w : Walk) → Still (fold (λ w x. simple_walk env x (past env 1 w)) w xs) (simples env xs w)

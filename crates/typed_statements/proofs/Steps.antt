@@ -63,6 +63,10 @@ pub past_unmoved : (env : MarkingEnv) (n : ℕ) (u : MarkingWalk) → Unmoved u 
 unfolding marking.past
 past_unmoved env n u = record { back = λ q. q; used = refl; in_entry = refl; locals = refl; awaited = λ q. refl; sites = refl }
 
+pub past_if_unmoved : (env : MarkingEnv) (test : Bool) (n : ℕ) (u : MarkingWalk) → Unmoved u (marking.past_if env test n u)
+past_if_unmoved env true n u = past_unmoved env n u
+past_if_unmoved env false n u = unmoved u
+
 pub noted_findings : (token rule : ℕ) (u : MarkingWalk) → (marking.noted true token rule u).findings ≡ [] → ⊥
 unfolding marking.noted
 noted_findings token rule u q = some_left u.findings _ q
