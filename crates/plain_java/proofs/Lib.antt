@@ -1,9 +1,9 @@
-mod CallTurns
+pub mod CallTurns
 mod Frames
 mod Histories
-mod Keeping
+pub mod Keeping
 mod Moves
 mod Passes
 mod Seams
 mod Steps
-mod Turns
+pub mod Turns
