@@ -82,6 +82,8 @@ module _ {g : Ground} (ground : IsGround g) where
   record Brought (at join turns : ℕ) (stack variables : List Val) (state : State) (answer : Outcome × State) : Type 0 where
     pub last : Frame
     pub ends : EndsIn g.setting g.code 2 (frame at stack variables turns) state (brought_to join answer.0) last answer.1
+    pub same_turns : last.turns ≡ turns
+    pub same_variables : last.variables ≡ variables
 
   brings : (name : List ℕ) (k : Method) (args : List Val) (at join turns : ℕ) (variables : List Val) (state : State) (answer : Outcome × State) → called k args state ≡ answer
       → IsLaid g.code at (instr.Access name k ∷ instr.Part join ∷ [])
@@ -92,11 +94,11 @@ module _ {g : Ground} (ground : IsGround g) where
       let f : Frame = frame (suc at) (pushed_result v []) variables turns in
       let lead : Leads g.setting g.code 1 (frame at (pushed_all args []) variables turns) state f next = one_access g.setting g.code (instr.Access name k) k args laid.0 does less answers in
       let end = end_step g.setting g.code (instr.Part join) f f next (PartFor join v) laid.1.0 (ap (λ w. Some (machine.Ends (PartFor join w) f)) (part_brought v)) in
-      record { last = f; ends = lead_then {n = 1} {k = 1} lead (record { steps = 1; same = end; few = omega arith }) }
+      record { last = f; ends = lead_then {n = 1} {k = 1} lead (record { steps = 1; same = end; few = omega arith }); same_turns = refl; same_variables = refl }
   brings name k args at join turns variables state (outcome.Throws e, next) answers laid does =
-      record { last = frame (suc at) [] variables turns; ends = record { steps = 1; same = refused_step g.setting g.code (instr.Access name k) k args (frame at (pushed_all args []) variables turns) (frame (suc at) [] variables turns) state next (outcome.Throws e) laid.0 does answers (λ v e. cc); few = omega arith } }
+      record { last = frame (suc at) [] variables turns; ends = record { steps = 1; same = refused_step g.setting g.code (instr.Access name k) k args (frame at (pushed_all args []) variables turns) (frame (suc at) [] variables turns) state next (outcome.Throws e) laid.0 does answers (λ v e. cc); few = omega arith }; same_turns = refl; same_variables = refl }
   brings name k args at join turns variables state (outcome.Limit, next) answers laid does =
-      record { last = frame (suc at) [] variables turns; ends = record { steps = 1; same = refused_step g.setting g.code (instr.Access name k) k args (frame at (pushed_all args []) variables turns) (frame (suc at) [] variables turns) state next outcome.Limit laid.0 does answers (λ v e. cc); few = omega arith } }
+      record { last = frame (suc at) [] variables turns; ends = record { steps = 1; same = refused_step g.setting g.code (instr.Access name k) k args (frame at (pushed_all args []) variables turns) (frame (suc at) [] variables turns) state next outcome.Limit laid.0 does answers (λ v e. cc); few = omega arith }; same_turns = refl; same_variables = refl }
 
   -- the holder of a site is the field's
   site_signature : (field : ℕ) (on : g.site ≡ Some field) (holder : Holder) (k : Method) (sig : Signature) → slice_get g.around.fields field ≡ Some holder → signature holder.class k ≡ Some sig
@@ -118,6 +120,8 @@ visits_bring_their_parts g on whole at task field method args now variables v st
     record {
       last = b.last;
       ends = lead_then on.stands (loads on.stands args v.variable (at + 1) turns [] variables state values_are v.carried parts.0) b.ends;
+      same_turns = b.same_turns;
+      same_variables = b.same_variables;
       of_result = answer_typed v.sig.result (called method args state).0 (answers_type v.holder.class method v.sig args state (part.of_class v.holder v.is_holder) v.is_signature v.types);
       same_class = call_keeps method args state;
       few = (let z = get_within g.code (suc there) (instr.Part (suc task)) parts.1.1.0 in omega arith);

@@ -57,10 +57,13 @@ abbrev pub brought_to : ℕ → Outcome → Ending
 brought_to join (outcome.Value v) = PartFor join v
 brought_to join how = Stopped how
 
--- The run of a visit ends with what the instance answers, and with the state that it then has.
+-- The run of a visit ends with what the instance answers, and with the state that it then has. It hands on the variables and the turns
+-- that it began with.
 pub record BringsPart (g : Ground) (at join : ℕ) (variables : List Val) (turns : ℕ) (state : State) (many : ℕ) (result : ValueType) (answer : Outcome × State) : Type 0 where
   pub last : Frame
   pub ends : EndsIn g.setting g.code (many + 2) (frame at [] variables turns) state (brought_to join answer.0) last answer.1
+  pub same_turns : last.turns ≡ turns
+  pub same_variables : last.variables ≡ variables
   pub of_result : IsOfResult result answer.0
   pub same_class : class_of answer.1 ≡ class_of state
   pub few : many + 2 ≤ length g.code
