@@ -73,6 +73,8 @@ unfolding TypedClassesAreVerified flat_of
 implements laws marked graph typed placed of =
     let class = marked.annotated.typed.class in
     record {
+      fields = ap (λ (g : Graph). g.fields) of.is_cut;
+      methods = ap (λ (g : Graph). g.methods) of.is_cut;
       verified = subst IsVerified (sym of.is_cut) (laws.verified class marked.program of.live typed of.are_live);
       entries = implemented laws class marked.program graph (ap (λ (g : Graph). g.methods) of.is_cut) typed placed;
     }

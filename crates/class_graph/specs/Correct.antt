@@ -15,7 +15,7 @@ use Rattle.access_blocks.specs.Statements.{Field}
 use Rattle.flat_code.specs.declared.graph.Graph.{Graph}
 use Rattle.flat_code.specs.Machine.{first_variables}
 use Rattle.flat_code.specs.Verified.{IsVerified}
-use Rattle.body_code.specs.ClassCode.{taken_types}
+use Rattle.body_code.specs.ClassCode.{taken_types, code_of_class}
 use Rattle.code_meaning.specs.Entries.{IsEntry, on_nothing}
 use Rattle.code_meaning.specs.Placed.{are_placed}
 use Rattle.code_meaning.specs.Standing.{Entered, IsEntered, code_for, RestsNow, RestsOf, BlocksOf, VisitsOf, JoinsOf}
@@ -39,14 +39,17 @@ pub record DoesWhatItMeans (e : Entered) : Type 0 where
 abbrev pub entry : Class → Program → ℕ → Method → Body → ℕ → Entered
 entry class program n m b task = record { class = class; program = program; number = n; method = m; body = b; task = task }
 
--- an entry method in the graph, with the number of its first task
+-- the code of an entry method in the graph, where its tasks count from some number on
 pub record IsImplemented (class : Class) (program : Program) (graph : Graph) (n : ℕ) (m : Method) (b : Body) : Type 0 where
   pub task : ℕ
   pub is_code : slice_get graph.methods n ≡ Some (code_for (entry class program n m b task))
   pub entered : IsEntered (entry class program n m b task)
   pub does : DoesWhatItMeans (entry class program n m b task)
 
+-- The graph has the fields and the code of the class and no others, and it is verified.
 pub record Implements (class : Class) (program : Program) (graph : Graph) : Type 0 where
+  pub fields : graph.fields ≡ (code_of_class class program).fields
+  pub methods : graph.methods ≡ (code_of_class class program).methods
   pub verified : IsVerified graph
   pub entries : (n : ℕ) (m : Method) (b : Body) → IsEntry class program n m b → IsImplemented class program graph n m b
 
