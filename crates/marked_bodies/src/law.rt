@@ -3,8 +3,8 @@
 ghost use Rattle.marked_bodies.specs.Laws.{MarkedBodiesStayTyped};
 
 /// A body that is typed before marks stand in it is typed with its marks: each access stands in a block of its field, each
-/// block begins with an access to a part of its field, and the rest is as it was: whether the body completes, which locals
-/// are read early, and which methods it calls. It does nothing when it runs.
+/// block begins with an access to a part of its field, and whether the body completes and which locals are read early
+/// is as it was; and it calls no other methods than before. It does nothing when it runs.
 pub fn marked_bodies_stay_typed()
     ensures { MarkedBodiesStayTyped }
 {}

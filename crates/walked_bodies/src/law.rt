@@ -4,9 +4,9 @@ ghost use Rattle.walked_bodies.specs.Walked.{BodiesAreWalked};
 
 use typed_statements::statements_are_typed;
 
-/// Where no rule on types or on annotations finds anything in a class, the body of each of its methods is read of
-/// as many types, names and sites as the walks of the rules pass in it, and its statements are typed before marks
-/// stand in them. It does nothing when it runs.
+/// Where no rule on types or on annotations finds anything in a class, the body of each of its methods stands
+/// before as many types, names and sites as the walks of the rules pass in it, and its statements are typed before
+/// marks stand in them. It does nothing when it runs.
 pub fn bodies_are_walked()
     ensures { BodiesAreWalked }
 {
