@@ -10,12 +10,8 @@ use Rattle.access_blocks.specs.declared.body.Statement.TheOpen as s
 use Rattle.access_blocks.specs.declared.body.Statement.TheFolds.{fold-roll-Statement, ind-Statement, map-Statement}
 use Rattle.access_blocks.specs.Expressions.{Calls, Ended, Gives, Ends, is_true, value_of, values_of}
 use Rattle.access_blocks.specs.Statements.{Field, Machine, Completion, Normal, Breaks, Continues, Returns, Halts, Completed, completed, normal, Running, seen_by, with_variable, with_value, evaluated, spending, spent, element_set, with_element, variable_in, marked, going_on, after, in_order, tested, looping, after_body, passes, looped, returned, statement_step, meaning, meanings}
+use Rattle.marked_bodies.proofs.Facts.{both_true}
 use Rattle.quiet_runs.specs.Quiet.{Quieted, bare_in, quieting, quieted, are_bare, on_fields, left_on}
-
-pub both_true : (a b : Bool) → (a && b) ≡ true → (a ≡ true) × (b ≡ true)
-both_true true true e = (refl, refl)
-both_true true false e = absurd (false≢true e)
-both_true false b e = absurd (false≢true e)
 
 -- It does on other fields what it does on these, and leaves them.
 abbrev pub Commutes : Running → Type 0

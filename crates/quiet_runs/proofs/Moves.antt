@@ -11,8 +11,9 @@ use Rattle.access_blocks.specs.declared.body.Statement.TheFolds.{fold_out-Statem
 use Rattle.access_blocks.specs.Expressions.{Calls, Ended as Evaluated, Gives, Ends, is_true, value_of, values_of}
 use Rattle.access_blocks.specs.Source.{Frame, Then, Test, Again, CallState, At, Visiting, Move, Moves, Rests, having, spending, standing, left_loop, next_pass, completing, after, entering, at_mark, at_gather, width_of, branch, opening, move_statement, pass, move_test, move}
 use Rattle.access_blocks.specs.Statements.{Field, Machine, Completion, Normal, Breaks, Continues, Returns, Halts, Completed, seen_by, with_turns, meaning, meanings}
+use Rattle.marked_bodies.proofs.Facts.{both_true, and_true, or_second}
 use Rattle.quiet_runs.specs.Quiet.{Quieted, quieting, quieted, quiet_in, opened_in, marks_in, are_quiet, are_bare, frame_is_quiet, frames_are_quiet, state_is_quiet, on_fields, rest_on}
-use Rattle.quiet_runs.proofs.Bare.{both_true, says, meanings_commute}
+use Rattle.quiet_runs.proofs.Bare.{says, meanings_commute}
 
 abbrev pub moved_on : List Field → Move → Move
 moved_on fields (Moves frames m) = Moves frames (on_fields fields m)
@@ -30,15 +31,6 @@ pub record IsKnown (there : List Field → Move) (here : Move) : Type 0 where
 -- a move from a machine, by what is done on it
 abbrev pub Knows : (Machine → Move) → Machine → Type 0
 Knows moving m = IsKnown (λ fields. moving (on_fields fields m)) (moving m)
-
-and_true : (a b : Bool) → a ≡ true → b ≡ true → (a && b) ≡ true
-and_true true true e h = refl
-and_true true false e h = h
-and_true false b e h = e
-
-or_true : (a : Bool) → (a || true) ≡ true
-or_true true = refl
-or_true false = refl
 
 -- ---- frames
 
@@ -141,12 +133,12 @@ module _ (calls : Calls) where
       }
 
   branch_quiet : (holds : Bool) (first : Statement) → (quieted first).quiet ≡ true → are_quiet (branch holds first None) ≡ true
-  branch_quiet true first h = and_true (quieted first).quiet ((quieted first).marks || true) h (or_true (quieted first).marks)
+  branch_quiet true first h = and_true (quieted first).quiet ((quieted first).marks || true) h (or_second (quieted first).marks true refl)
   branch_quiet false first h = refl
 
   branch_of_two_quiet : (holds : Bool) (first second : Statement) → (quieted first).quiet ≡ true → (quieted second).quiet ≡ true → are_quiet (branch holds first (Some second)) ≡ true
-  branch_of_two_quiet true first second h k = and_true (quieted first).quiet ((quieted first).marks || true) h (or_true (quieted first).marks)
-  branch_of_two_quiet false first second h k = and_true (quieted second).quiet ((quieted second).marks || true) k (or_true (quieted second).marks)
+  branch_of_two_quiet true first second h k = and_true (quieted first).quiet ((quieted first).marks || true) h (or_second (quieted first).marks true refl)
+  branch_of_two_quiet false first second h k = and_true (quieted second).quiet ((quieted second).marks || true) k (or_second (quieted second).marks true refl)
 
   opening_knows : (st : Statement) (y : Statement-F Statement) (frames : List Frame) (m : Machine) → quieted st ≡ quieting (quiets y) → opened_in (quiets y) ≡ true → frames_are_quiet frames ≡ true
       → Knows (opening calls st y frames) m
@@ -182,7 +174,7 @@ module _ (calls : Calls) where
   pass_knows true test update body frames zero m l h = record { others = λ fields. refl; quiet = refl }
   pass_knows true test update body frames (suc left) m l h =
       let both = both_true (are_bare update) (quieted body).quiet l in
-      let one : are_quiet (body ∷ []) ≡ true = and_true (quieted body).quiet ((quieted body).marks || true) both.1 (or_true (quieted body).marks) in
+      let one : are_quiet (body ∷ []) ≡ true = and_true (quieted body).quiet ((quieted body).marks || true) both.1 (or_second (quieted body).marks true refl) in
       let rest : frames_are_quiet (Again test update body ∷ frames) ≡ true = and_true (are_bare update && (quieted body).quiet) (frames_are_quiet frames) l h in
       record { others = λ fields. refl; quiet = and_true (are_quiet (body ∷ [])) (frames_are_quiet (Again test update body ∷ frames)) one rest }
   pass_knows false test update body frames turns m l h = record { others = λ fields. refl; quiet = h }
