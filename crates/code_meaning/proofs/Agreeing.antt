@@ -154,7 +154,7 @@ agrees_set {g} {st} {variables} {state} {m} ground v x t is has h =
     let in_there : v < length m.variables = omega arith in
     record {
       known = λ w known. same_set g.around.context variables m.variables v w x t is has in_here in_there (same_or_not w v) (λ other. h.known w (not_same w v st.known other known));
-      room = subst (λ n. g.many ≤ n) (sym (length_set variables v x)) h.room;
+      room = subst (λ n. n ≡ g.many) (sym (length_set variables v x)) h.room;
       room_there = subst (λ n. length g.around.context.variables ≤ n) (sym (length_set m.variables v x)) h.room_there;
       few = h.few;
       gathers = record { same = h.gathers.same; members = h.gathers.members; are_values = h.gathers.are_values };

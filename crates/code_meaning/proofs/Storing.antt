@@ -52,7 +52,7 @@ agrees_kept {g} {st} {variables} {state} {m} v after behind_all before long h = 
       let a = variable_within g.around.context w k.type k.is_type in
       let less : w < v = omega arith in
       record { type = k.type; value = k.value; is_type = k.is_type; has_type = k.has_type; is_here = before w less ∙ k.is_here; is_there = k.is_there };
-  room = subst (λ n. g.many ≤ n) (sym long) h.room;
+  room = subst (λ n. n ≡ g.many) (sym long) h.room;
   room_there = h.room_there;
   few = h.few;
   gathers = h.gathers;

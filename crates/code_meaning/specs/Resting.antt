@@ -31,7 +31,7 @@ use Rattle.code_meaning.specs.Frames.{Coded, scope_in, Level, AreLaid}
 -- the variables of the code have the values of those that are known
 pub record SameVariables (c : Coded) (st : Standing) (here there : List Val) : Type 0 where
   pub known : (v : ℕ) → is_in v st.known ≡ true → HasSame c.around.context here there v
-  pub room : c.many ≤ length here
+  pub room : length here ≡ c.many
   pub room_there : length c.around.context.variables ≤ length there
 
 -- A block of a partitioned field has a key, and one on an instance of a partial field has none.

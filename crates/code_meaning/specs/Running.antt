@@ -88,7 +88,7 @@ pub record Below (a b : Standing) : Type 0 where
 -- variables and a state of the code, and a machine of the source, where this holds
 pub record Agrees (g : Ground) (st : Standing) (variables : List Val) (state : State) (m : Machine) : Type 0 where
   pub known : (v : ℕ) → is_in v st.known ≡ true → HasSame g.around.context variables m.variables v
-  pub room : g.many ≤ length variables
+  pub room : length variables ≡ g.many
   pub room_there : length g.around.context.variables ≤ length m.variables
   pub few : m.turns ≤ g.most
   pub gathers : GathersSame g.around.context g.setting (seen_by m)
